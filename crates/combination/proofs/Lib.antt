@@ -1,0 +1,4 @@
+mod Words
+mod Digits
+mod Listing
+mod Judging

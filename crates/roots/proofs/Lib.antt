@@ -1,0 +1,7 @@
+pub mod Sums
+pub mod RootLaws
+pub mod Laws
+pub mod Tables
+mod Fill
+pub mod Firsts
+mod Held

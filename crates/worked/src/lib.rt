@@ -1,0 +1,6 @@
+//! Worked examples of the crates below, as tests.
+
+#[cfg(test)]
+mod combining;
+#[cfg(test)]
+mod outside;
