@@ -6,6 +6,9 @@ ghost use Rattle.roots.specs.Cells.{before, above, filled};
 ghost use Rattle.roots.specs.Held.{members-of};
 use super::super::size::Size;
 
+// The highest correlation, in hundredths.
+const HIGHEST: u8 = 100;
+
 // How many entries above the diagonal stand in the rows before `r`.
 fn entries_before(size: Size, r: usize) -> usize
     requires { ⌜ r < members-of size ⌝ }
@@ -31,7 +34,7 @@ fn entry_at(size: Size, given: &[u8], r: usize, c: usize) -> u8
     ensures { λ v. ⌜ v ≡ filled (members-of size) (now (given .entry)) r c ⌝ }
 {
     if r == c {
-        100
+        HIGHEST
     } else if r < c {
         entry_above(size, given, r, c)
     } else {
@@ -55,7 +58,7 @@ pub(super) fn first_above_100(given: &[u8]) -> Option<usize>
     ensures { λ r. ⌜ r ≡ first-above 100 (now (given .entry)) ⌝ }
 {
     for (i, v) in given.iter().enumerate() {
-        if *v > 100 {
+        if *v > HIGHEST {
             return Some(i + 1);
         }
     }

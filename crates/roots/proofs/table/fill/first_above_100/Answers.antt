@@ -9,11 +9,11 @@ use Rattle.roots.proofs.table.fill.first_above_100.Needs as need
 
 pub loop-i-again : need.loop-i-again
 loop-i-again c =
-    none-more (ltb 100) 0 (c .args .given .now) (c .loop-i .i) (c .loop-i-test .taken) (c .loop-i .inv) (le-ltb 100 (getD (c .args .given .now) (c .loop-i .i) 0) (c .if-v-gt100 .left))
+    none-more (ltb 100) 0 (c .args .given .now) (c .loop-i .i) (c .loop-i-test .taken) (c .loop-i .inv) (le-ltb 100 (getD (c .args .given .now) (c .loop-i .i) 0) (c .if-v-gt-HIGHEST .left))
 
-pub returns-then-v-gt100 : need.returns-then-v-gt100
-returns-then-v-gt100 c =
-    sym (found-at (ltb 100) 0 (c .args .given .now) (c .loop-i .i) (c .loop-i-test .taken) (c .loop-i .inv) (lt-ltb 100 (getD (c .args .given .now) (c .loop-i .i) 0) (c .if-v-gt100 .taken)))
+pub returns-then-v-gt-HIGHEST : need.returns-then-v-gt-HIGHEST
+returns-then-v-gt-HIGHEST c =
+    sym (found-at (ltb 100) 0 (c .args .given .now) (c .loop-i .i) (c .loop-i-test .taken) (c .loop-i .inv) (lt-ltb 100 (getD (c .args .given .now) (c .loop-i .i) 0) (c .if-v-gt-HIGHEST .taken)))
 
 pub returns : need.returns
 returns c = sym (ap (first-above 100) (sym (take-all (c .loop-i .i) (c .args .given .now) (c .loop-i-test .left))) ∙ c .loop-i .inv)
