@@ -38,18 +38,18 @@ small-sides p ok =
 module _ (acc : List Meaning) (m : Meaning) (before : List (ℕ × ℕ)) (p : ℕ × ℕ) (stand : Stand acc before) (own : p ≡ bounds m) (single : large m ≡ passes (m .U 1)) where
   took : (after : List (ℕ × ℕ)) → (within-limit p ≡ true) × (after ≡ before ++ (p ∷ [])) → Stand (acc ++ (m ∷ [])) after
   took after push =
-      let small : large m ≡ false = single ∙ le-ltb 16777215 (m .U 1) (omega (arith, small-sides p (push .0) .1, ap (λ (q : ℕ × ℕ). q .1) own)) in
-      ( none-behind acc (m ∷ []) (stand .0) (rw small)
-      , push .1 ∙ ap (λ l. l ++ (p ∷ [])) (stand .1) ∙ ap (λ q. all-bounds acc ++ (q ∷ [])) own ∙ sym (bounds-++ acc (m ∷ []))
+      let small : large m ≡ false = single ∙ le-ltb 16777215 (m .U 1) (omega (arith, small-sides p (push .0) .1, ap (λ (q : ℕ × ℕ). q .1) own)) in (
+        none-behind acc (m ∷ []) (stand .0) (rw small),
+        push .1 ∙ ap (λ l. l ++ (p ∷ [])) (stand .1) ∙ ap (λ q. all-bounds acc ++ (q ∷ [])) own ∙ sym (bounds-++ acc (m ∷ [])),
       )
 
   stopped : (rest : List Meaning) (f : ℕ) → m .D 1 ≤ m .U 1 → (within-limit p ≡ false) × (f ≡ length before + 1) → first-large (acc ++ (m ∷ rest)) ≡ Some f
   stopped rest f order push =
       let over : 16777215 < m .U 1 =
-        ⊎-elim
-        (λ l. omega (arith, leb-false (p .0) 16777215 l, ap (λ (q : ℕ × ℕ). q .0) own))
-        (λ h. omega (arith, leb-false (p .1) 16777215 h, ap (λ (q : ℕ × ℕ). q .1) own))
-        (and-cases (leb (p .0) 16777215) (leb (p .1) 16777215) (push .0))
+      ⊎-elim
+      (λ l. omega (arith, leb-false (p .0) 16777215 l, ap (λ (q : ℕ × ℕ). q .0) own))
+      (λ h. omega (arith, leb-false (p .1) 16777215 h, ap (λ (q : ℕ × ℕ). q .1) own))
+      (and-cases (leb (p .0) 16777215) (leb (p .1) 16777215) (push .0))
       in
       let big : large m ≡ true = single ∙ lt-ltb 16777215 (m .U 1) over in
       let same : length acc + 1 ≡ f = omega (arith, push .1, ap length (stand .1), bounds-length acc) in
@@ -136,7 +136,7 @@ module _ (e : ℕ → ℕ → ℕ) (sound : Sound e) (t : Beside) (shown members
           all-figures four ps push-four d d-is last-is =
               let stand-four = took _ (minimum t (scr e t shown members)) three m stand-three m-own refl four push-four in
               let whole = behind-three (shown ++ members) (basic e t shown members) (operational t (basic e t shown members)) (scr e t shown members) (minimum t (scr e t shown members) ∷ []) in
-              let d-own : d ≡ bounds (diversification members (basic e t shown members)) = d-is ∙ ap (λ (q : ℕ × ℕ). (added (downs members 1) - q .1, added (ups members 1) - q .0)) own in
-              ( ap first-large (sym whole) ∙ stand-four .0
-              , last-is ∙ ap₂ (λ (l : List (ℕ × ℕ)) (q : ℕ × ℕ). l ++ (q ∷ [])) (stand-four .1 ∙ ap all-bounds whole) d-own ∙ sym (bounds-++ (limited e t shown members) _)
+              let d-own : d ≡ bounds (diversification members (basic e t shown members)) = d-is ∙ ap (λ (q : ℕ × ℕ). (added (downs members 1) - q .1, added (ups members 1) - q .0)) own in (
+                ap first-large (sym whole) ∙ stand-four .0,
+                last-is ∙ ap₂ (λ (l : List (ℕ × ℕ)) (q : ℕ × ℕ). l ++ (q ∷ [])) (stand-four .1 ∙ ap all-bounds whole) d-own ∙ sym (bounds-++ (limited e t shown members) _),
               )

@@ -19,29 +19,29 @@ module _ (j x y u v : ℕ) where
   min-down : j * x ≤ u → j * y ≤ v → j * min x y ≤ min u v
   min-down a b =
       elim (decLe x y) [
-        yes p ↦ (let e : min x y ≡ x = omega arith in rw e (omega (arith, mul-le-mul-left j p)))
-      | no p ↦ (let e : min x y ≡ y = omega arith in let q : y ≤ x = omega arith in rw e (omega (arith, mul-le-mul-left j q)))
+        | yes p ↦ (let e : min x y ≡ x = omega arith in rw e (omega (arith, mul-le-mul-left j p)))
+        | no p ↦ (let e : min x y ≡ y = omega arith in let q : y ≤ x = omega arith in rw e (omega (arith, mul-le-mul-left j q)))
       ]
 
   min-up : u ≤ j * x → v ≤ j * y → min u v ≤ j * min x y
   min-up a b =
       elim (decLe x y) [
-        yes p ↦ (let e : min x y ≡ x = omega arith in rw e (omega arith))
-      | no p ↦ (let e : min x y ≡ y = omega arith in rw e (omega arith))
+        | yes p ↦ (let e : min x y ≡ x = omega arith in rw e (omega arith))
+        | no p ↦ (let e : min x y ≡ y = omega arith in rw e (omega arith))
       ]
 
   max-down : j * x ≤ u → j * y ≤ v → j * max x y ≤ max u v
   max-down a b =
       elim (decLe x y) [
-        yes p ↦ (let e : max x y ≡ y = omega arith in rw e (omega arith))
-      | no p ↦ (let e : max x y ≡ x = omega arith in rw e (omega arith))
+        | yes p ↦ (let e : max x y ≡ y = omega arith in rw e (omega arith))
+        | no p ↦ (let e : max x y ≡ x = omega arith in rw e (omega arith))
       ]
 
   max-up : u ≤ j * x → v ≤ j * y → max u v ≤ j * max x y
   max-up a b =
       elim (decLe x y) [
-        yes p ↦ (let e : max x y ≡ y = omega arith in rw e (omega (arith, mul-le-mul-left j p)))
-      | no p ↦ (let e : max x y ≡ x = omega arith in let q : y ≤ x = omega arith in rw e (omega (arith, mul-le-mul-left j q)))
+        | yes p ↦ (let e : max x y ≡ y = omega arith in rw e (omega (arith, mul-le-mul-left j p)))
+        | no p ↦ (let e : max x y ≡ x = omega arith in let q : y ≤ x = omega arith in rw e (omega (arith, mul-le-mul-left j q)))
       ]
 
 pub operational-terms : (t : Beside) (b : Meaning) → Terms b → Terms (operational t b)

@@ -4,7 +4,7 @@ pub mod Modules
 pub mod Lists
 pub mod FormulaTerms
 mod PairLists
-mod Gathering
+pub mod Gathering
 mod Finishing
 mod Nexts
 pub mod WorkedFigures

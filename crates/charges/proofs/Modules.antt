@@ -87,14 +87,15 @@ some-large-passes [] i h = cc
 some-large-passes (m ∷ ms) i h =
     some-++ (m .inner) (m .U 1 ∷ depths ms)
     ∙ ⊎-elim
-      (λ s. one (some-passes (m .inner)) (passes (m .U 1)) (some-passes (depths ms)) (s .0))
-      (λ s. two (some-passes (m .inner)) (passes (m .U 1)) (some-passes (depths ms)) (some-large-passes ms (s .1 .0) (s .1 .1)))
-      (some-split (large m) (first-large ms) i h)
+    (λ s. one (some-passes (m .inner)) (passes (m .U 1)) (some-passes (depths ms)) (s .0))
+    (λ s. two (some-passes (m .inner)) (passes (m .U 1)) (some-passes (depths ms)) (some-large-passes ms (s .1 .0) (s .1 .1)))
+    (some-split (large m) (first-large ms) i h)
   where
     one : (a b c : Bool) → (a || b) ≡ true → (a || (b || c)) ≡ true
     one true b c h = refl
     one false true c h = refl
     one false false c h = cc
+
     two : (a b c : Bool) → c ≡ true → (a || (b || c)) ≡ true
     two true b c h = refl
     two false true c h = refl

@@ -23,10 +23,10 @@ module _ (xs ys : List Meaning) (a : List (ℕ × ℕ)) where
 
   module _ (b : List (ℕ × ℕ)) (first : (first-large xs ≡ None) × (b ≡ a ++ all-bounds xs)) where
     pub both : (c : List (ℕ × ℕ)) → (first-large ys ≡ None) × (c ≡ b ++ all-bounds ys) → (first-large (xs ++ ys) ≡ None) × (c ≡ a ++ all-bounds (xs ++ ys))
-    both c second =
-        ( none-behind xs ys (first .0) (second .0)
-        , second .1 ∙ ap (λ l. l ++ all-bounds ys) (first .1) ∙ append-assoc a (all-bounds xs) (all-bounds ys) ∙ ap (λ l. a ++ l) (sym (bounds-++ xs ys))
-        )
+    both c second = (
+      none-behind xs ys (first .0) (second .0),
+      second .1 ∙ ap (λ l. l ++ all-bounds ys) (first .1) ∙ append-assoc a (all-bounds xs) (all-bounds ys) ∙ ap (λ l. a ++ l) (sym (bounds-++ xs ys)),
+    )
 
     -- one of the second is
     pub late : (f : ℕ) → mapped (λ p. length b + p) (first-large ys) ≡ Some f → mapped (λ p. length a + p) (first-large (xs ++ ys)) ≡ Some f

@@ -45,7 +45,10 @@ fn gather_next<Ms: Members>(members: &Ms, pairs: &mut Pairs) -> Result<(), TooLa
 }
 
 // The bounds of figures 1 to 23.
-fn gather_all<Market: Members, Life: Members, Health: Members, NonLife: Members, Basic: Members>(charges: &Charges<Market, Life, Health, NonLife, Basic>, pairs: &mut Pairs) -> Result<(), TooLargeAt>
+fn gather_all<Market: Members, Life: Members, Health: Members, NonLife: Members, Basic: Members>(
+    charges: &Charges<Market, Life, Health, NonLife, Basic>,
+    pairs: &mut Pairs,
+) -> Result<(), TooLargeAt>
     requires make { ⌜ Market·Members .proper × Life·Members .proper × Health·Members .proper × NonLife·Members .proper × Basic·Members .proper ⌝ }
     requires shown { ⌜ Market·Members .count + Life·Members .count + Health·Members .count + NonLife·Members .count ≡ 18 ⌝ }
     requires basic { ⌜ Basic·Members .count ≡ 5 ⌝ }
@@ -61,7 +64,12 @@ fn gather_all<Market: Members, Life: Members, Health: Members, NonLife: Members,
 }
 
 /// The 28 figures into the place, or the lowest that is too large, and the place as before.
-pub fn work_out<Market: Members, Life: Members, Health: Members, NonLife: Members, Basic: Members>(charges: &Charges<Market, Life, Health, NonLife, Basic>, table: &Table, beside: &Beside, place: &mut [(u32, u32); 28]) -> Result<(), TooLargeAt>
+pub fn work_out<Market: Members, Life: Members, Health: Members, NonLife: Members, Basic: Members>(
+    charges: &Charges<Market, Life, Health, NonLife, Basic>,
+    table: &Table,
+    beside: &Beside,
+    place: &mut [(u32, u32); 28],
+) -> Result<(), TooLargeAt>
     requires make { ⌜ Market·Members .proper × Life·Members .proper × Health·Members .proper × NonLife·Members .proper × Basic·Members .proper ⌝ }
     requires shown { ⌜ Market·Members .count + Life·Members .count + Health·Members .count + NonLife·Members .count ≡ 18 ⌝ }
     requires basic { ⌜ Basic·Members .count ≡ 5 ⌝ }

@@ -20,7 +20,10 @@ fn operational(beside: &Beside, basic: (u32, u32)) -> (u32, u32)
 {
     let least = (beside.premiums / 100).max(beside.provisions / 100);
     let low = (3 * basic.0 as u64 / 10).min(least);
-    let most = beside.premiums.div_ceil(100).max(beside.provisions.div_ceil(100));
+    let most = beside
+        .premiums
+        .div_ceil(100)
+        .max(beside.provisions.div_ceil(100));
     let high = (3 * basic.1 as u64).div_ceil(10).min(most);
     (low as u32, high as u32)
 }
@@ -29,7 +32,10 @@ fn operational(beside: &Beside, basic: (u32, u32)) -> (u32, u32)
 fn minimum(beside: &Beside, scr: (u32, u32)) -> (u32, u32)
     ensures { λ r. ⌜ r ≡ (minimum-down (now (beside .entry)) 1 (scr .0), minimum-up (now (beside .entry)) 1 (scr .1)) ⌝ }
 {
-    ((scr.0 / 3).max(beside.least), scr.1.div_ceil(3).max(beside.least))
+    (
+        (scr.0 / 3).max(beside.least),
+        scr.1.div_ceil(3).max(beside.least),
+    )
 }
 
 // The amounts added.
@@ -58,7 +64,11 @@ fn push_next(pairs: &mut Pairs, pair: (u32, u32)) -> Result<(), TooLargeAt>
 }
 
 // Figures 24 to 28 behind the 23 that are held, the last five of which are the members of the basic SCR.
-pub(super) fn finish(mut pairs: Pairs, table: &Table, beside: &Beside) -> Result<[(u32, u32); 28], TooLargeAt>
+pub(super) fn finish(
+    mut pairs: Pairs,
+    table: &Table,
+    beside: &Beside,
+) -> Result<[(u32, u32); 28], TooLargeAt>
     requires { ⌜ length (held pairs) ≡ 23 ⌝ }
     ensures { λ r. ⌜ Finished (correlation (now (table .entry))) (now (beside .entry)) (held pairs) r ⌝ }
 {
@@ -72,6 +82,9 @@ pub(super) fn finish(mut pairs: Pairs, table: &Table, beside: &Beside) -> Result
     let scr = (low + o_low, high + o_high);
     push_next(&mut pairs, scr)?;
     push_next(&mut pairs, minimum(beside, scr))?;
-    let diversification = (added_up(&lows).saturating_sub(high), added_up(&highs).saturating_sub(low));
+    let diversification = (
+        added_up(&lows).saturating_sub(high),
+        added_up(&highs).saturating_sub(low),
+    );
     Ok(pairs.and_last(diversification))
 }

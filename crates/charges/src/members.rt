@@ -84,6 +84,8 @@ pub impl<C: Charge, R: Members> Members for (C, R) as MoreMembers {
     }
 
     fn added_widths(&self) -> u32 {
-        self.0.greatest_width().saturating_add(self.1.added_widths())
+        self.0
+            .greatest_width()
+            .saturating_add(self.1.added_widths())
     }
 }

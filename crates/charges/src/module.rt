@@ -54,6 +54,8 @@ pub impl<Ms: Members> Charge for Module<Ms> as ModuleCharge {
     }
 
     fn greatest_width(&self) -> u32 {
-        ceiling_root(self.members.len()).saturating_mul(self.members.added_widths()).saturating_add(1)
+        ceiling_root(self.members.len())
+            .saturating_mul(self.members.added_widths())
+            .saturating_add(1)
     }
 }

@@ -3,4 +3,8 @@
 #[cfg(test)]
 mod combining;
 #[cfg(test)]
+mod figuring;
+#[cfg(test)]
+mod judging;
+#[cfg(test)]
 mod outside;

@@ -10,6 +10,7 @@ use super::Side;
 use roots::Amounts;
 
 const MOST: usize = 27;
+
 const LIMIT: u32 = 16_777_215;
 
 impl Side {

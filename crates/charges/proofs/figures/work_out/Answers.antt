@@ -80,6 +80,6 @@ returns g c =
     let got = c .in-Continue-gather-all .ensures tt in
     let is = got .1 ∙ ap (λ l. l ++ all-bounds (shown ++ members)) (c .new-pairs .ensures) in
     let shown-terms =
-      all-++ (market ++ life ++ health) non-life (all-++ (market ++ life) health (all-++ market life (g .Market·Members·met .terms (ch .market)) (g .Life·Members·met .terms (ch .life))) (g .Health·Members·met .terms (ch .health))) (g .NonLife·Members·met .terms (ch .«non_life»))
+    all-++ (market ++ life ++ health) non-life (all-++ (market ++ life) health (all-++ market life (g .Market·Members·met .terms (ch .market)) (g .Life·Members·met .terms (ch .life))) (g .Health·Members·met .terms (ch .health))) (g .NonLife·Members·met .terms (ch .«non_life»))
     in
     worked (correlation (c .args .table .now)) (table-sound (c .args .table .now)) (c .args .beside .now) shown members shown-terms terms _ (c .in-Continue-figures .ensures tt shown members terms many (got .0) is)

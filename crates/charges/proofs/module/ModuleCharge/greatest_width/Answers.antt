@@ -20,8 +20,8 @@ some-root n h = go (ceiling-root n) (ceiling n .reaches)
 capped : (limit q w : ℕ) → 1 ≤ q → min (min (q * min w limit) limit + 1) limit ≡ min (1 + q * w) limit
 capped limit q w some =
     elim (decLe w limit) [
-      yes p ↦ (let e : min w limit ≡ w = omega arith in rw e (omega arith))
-    | no p ↦ (let e : min w limit ≡ limit = omega arith in let a = mul-le-mul-right limit some in let b = mul-le-mul-right w some in rw e (omega arith))
+      | yes p ↦ (let e : min w limit ≡ w = omega arith in rw e (omega arith))
+      | no p ↦ (let e : min w limit ≡ limit = omega arith in let a = mul-le-mul-right limit some in let b = mul-le-mul-right w some in rw e (omega arith))
     ]
 
 value : (n m q p w v r limit : ℕ) → 2 ≤ n → q ≡ ceiling-root m → m ≡ n → p ≡ min w limit → v ≡ min (q * p) limit → r ≡ min (v + 1) limit → r ≡ min (1 + ceiling-root n * w) limit

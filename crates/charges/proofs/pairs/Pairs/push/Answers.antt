@@ -42,7 +42,7 @@ pub returns-then-self-ge-MOST : need.returns-then-self-ge-MOST
 returns-then-self-ge-MOST c =
     let ps = held (c .args .self .now) in
     elim (c .then-self-ge-MOST .came) [
-      then-self-ge-MOST·by·then-self-ge-MOST w ↦ record { answer = full ps (c .args .pair .0) (c .args .pair .1) (omega (arith, held-length (c .args .self .now), w .if-self-ge-MOST .taken)); after = refl }
-    | then-self-ge-MOST·by·else-self-ge-MOST·then-pair-gt-LIMIT w ↦ record { answer = low-passes ps (c .args .pair .0) (c .args .pair .1) (w .if-pair-gt-LIMIT .taken); after = refl }
-    | then-self-ge-MOST·by·else-self-ge-MOST·else-pair-gt-LIMIT·then-pair-gt-LIMIT-2 w ↦ record { answer = high-passes ps (c .args .pair .0) (c .args .pair .1) (w .if-pair-gt-LIMIT-2 .taken); after = refl }
+      | then-self-ge-MOST·by·then-self-ge-MOST w ↦ record { answer = full ps (c .args .pair .0) (c .args .pair .1) (omega (arith, held-length (c .args .self .now), w .if-self-ge-MOST .taken)); after = refl }
+      | then-self-ge-MOST·by·else-self-ge-MOST·then-pair-gt-LIMIT w ↦ record { answer = low-passes ps (c .args .pair .0) (c .args .pair .1) (w .if-pair-gt-LIMIT .taken); after = refl }
+      | then-self-ge-MOST·by·else-self-ge-MOST·else-pair-gt-LIMIT·then-pair-gt-LIMIT-2 w ↦ record { answer = high-passes ps (c .args .pair .0) (c .args .pair .1) (w .if-pair-gt-LIMIT-2 .taken); after = refl }
     ]

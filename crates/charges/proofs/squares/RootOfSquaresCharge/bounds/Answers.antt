@@ -13,8 +13,8 @@ use Rattle.charges.proofs.squares.RootOfSquaresCharge.bounds.Needs as need
 over-most : (t : ℕ) → 281474943156225 < t → passes (upper (100 * (1 * 1 * t))) ≡ true
 over-most t h =
     elim (decLe (upper (100 * (1 * 1 * t))) 16777215) [
-      yes p ↦ absurd (let k = square-le (upper (100 * (1 * 1 * t))) 16777215 p in let z : ⊥ = omega (arith, upper-ge (100 * (1 * 1 * t))) in z)
-    | no p ↦ lt-ltb 16777215 (upper (100 * (1 * 1 * t))) (omega arith)
+      | yes p ↦ absurd (let k = square-le (upper (100 * (1 * 1 * t))) 16777215 p in let z : ⊥ = omega (arith, upper-ge (100 * (1 * 1 * t))) in z)
+      | no p ↦ lt-ltb 16777215 (upper (100 * (1 * 1 * t))) (omega arith)
     ]
 
 within-most : (t : ℕ) → t ≤ 281474943156225 → passes (upper (100 * (1 * 1 * t))) ≡ false

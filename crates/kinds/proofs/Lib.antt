@@ -1,0 +1,9 @@
+mod Finer
+mod Diagonal
+mod Matches
+mod Kept
+mod BusinessLists
+mod Asked
+mod Same
+mod LifeLines
+mod ByHand

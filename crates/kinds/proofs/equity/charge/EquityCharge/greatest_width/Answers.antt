@@ -1,0 +1,10 @@
+use lib.Dec.{lit≤}
+use Rattle.kinds.specs.Means.{equity-means}
+use Rattle.kinds.proofs.equity.charge.EquityCharge.greatest_width.Needs as need
+
+pub greatest-width-requires : need.greatest-width-requires
+greatest-width-requires c κs = (lit≤ tt, lit≤ tt, (tt, (tt, tt)))
+
+pub returns : need.returns
+unfolding equity-means
+returns c = c .greatest-width .ensures

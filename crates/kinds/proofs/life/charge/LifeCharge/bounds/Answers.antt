@@ -1,0 +1,14 @@
+use lib.Dec.{lit≤}
+use Rattle.kinds.specs.Means.{life-means}
+use Rattle.kinds.proofs.life.charge.LifeCharge.bounds.Needs as need
+
+pub bounds-requires : need.bounds-requires
+bounds-requires c κs = (lit≤ tt, lit≤ tt, (tt, (tt, (tt, (tt, (tt, (tt, (tt, tt))))))))
+
+pub returns-in-Ok : need.returns-in-Ok
+unfolding life-means
+returns-in-Ok c = c .in-Ok .ensures tt
+
+pub returns-in-Err : need.returns-in-Err
+unfolding life-means
+returns-in-Err c = c .in-Err .ensures tt

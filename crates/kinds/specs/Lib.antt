@@ -1,0 +1,4 @@
+pub mod Exact
+pub mod Means
+pub mod Ours
+pub mod Examples

@@ -1,0 +1,9 @@
+pub mod Faults
+pub mod Kinds
+pub mod Rules
+pub mod Held
+pub mod Judged
+pub mod Weights
+pub mod Cells
+pub mod Totals
+pub mod Tally
