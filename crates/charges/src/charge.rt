@@ -3,10 +3,6 @@ ghost use mathlib.Core.List.{List, []};
 ghost use Prim.Native.Nat.{ℕ, _-_, _^_, min};
 ghost use Rattle.charges.specs.Meaning.{Terms, Told, means};
 
-/// A charge's answer in place of a low and a high: its high, or that of a member at any depth, passes 16,777,215.
-#[derive(Clone, Copy)]
-pub struct TooLarge {}
-
 /// A capital charge: in every unit, a result rounded down and one rounded up.
 pub trait Charge {
     // the result in a unit k times finer, rounded down and rounded up
@@ -37,4 +33,10 @@ pub trait Charge {
     fn greatest_width(&self) -> u32
         requires { ⌜ proper ⌝ }
         ensures { λ r. ⌜ r ≡ min (width (now (self .entry))) (2 ^ 32 - 1) ⌝ };
+}
+
+/// A charge's answer in place of a low and a high: its high, or that of a member at any depth, passes 16,777,215.
+#[derive(Clone, Copy)]
+pub struct TooLarge {
+    // it tells no more: a charge has no other refusal
 }

@@ -2,8 +2,9 @@
 mod book;
 mod qis3;
 
-use book::book;
+use book::BOOK;
 use kinds::figures;
+use lines::Fields;
 use lines::Line;
 use lines::Totals;
 use qis3::tables;
@@ -14,11 +15,21 @@ const USAGE: &str = "usage: company
 Prints the 28 figures of a company under the tables of QIS3, one a line: number, low, high.
 ";
 
+fn fields(given: (u8, u8, u16, u32, u32)) -> Fields {
+    Fields {
+        kind: given.0,
+        class: given.1,
+        rate: given.2,
+        first: given.3,
+        second: given.4,
+    }
+}
+
 // The totals of the company's lines.
 fn totals(rt: &LibcRuntime) -> Result<Option<Totals>, AnyError> {
     let mut lines = Vec::new(rt.alloc());
-    for fields in book() {
-        let Ok(line) = Line::new(fields, lines.len() + 1) else {
+    for given in BOOK {
+        let Ok(line) = Line::new(fields(given), lines.len() + 1) else {
             return Ok(None);
         };
         lines.push(line)?;

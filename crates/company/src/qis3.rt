@@ -160,7 +160,7 @@ fn table(members: usize, upper: &[u8]) -> Option<Table> {
 }
 
 /// The seven tables.
-pub fn tables() -> Option<Tables> {
+pub(super) fn tables() -> Option<Tables> {
     Some(Tables {
         basic: table(5, &BASIC)?,
         market: table(6, &MARKET)?,

@@ -10,14 +10,13 @@ mod life;
 mod made;
 mod market;
 mod nonlife;
-mod ours;
 mod premium;
 mod tables;
 mod worked;
 
 pub use choice::Choice;
-pub use ours::Ours;
-pub use ours::OursChoice;
+pub use choice::Ours;
+pub use choice::OursChoice;
 pub use tables::Tables;
 pub use worked::figures;
 pub use worked::figures_by;

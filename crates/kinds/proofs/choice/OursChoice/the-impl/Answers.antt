@@ -1,6 +1,6 @@
 use mathlib.Core.Path.{_≡_, refl}
 use Rattle.kinds.specs.Ours.{equity, premium-reserve, market-module, life-module, health-module, nonlife-module}
-use Rattle.kinds.proofs.ours.OursChoice.the-impl.Needs as need
+use Rattle.kinds.proofs.choice.OursChoice.the-impl.Needs as need
 
 pub shown-law : need.shown-law
 shown-law = refl
