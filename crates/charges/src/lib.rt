@@ -1,4 +1,5 @@
 //! Charges, and the capital formula over any charges that keep the terms.
+#![tactic(auto)]
 
 mod beside;
 mod charge;

@@ -1,4 +1,5 @@
 //! Any choice of charges for figures 1 to 23, made from lines and tables, and the 28 figures by it.
+#![tactic(auto)]
 
 mod beside;
 mod choice;

@@ -1,4 +1,5 @@
 //! Amounts and a correlation table as text, and the root as text: the work of the program `combine`.
+#![tactic(auto)]
 
 mod answer;
 mod numbers;

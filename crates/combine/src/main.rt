@@ -1,4 +1,6 @@
 //! Combines amounts under a correlation table: two lines of numbers in, the low and the high of the root out.
+#![tactic(auto)]
+
 use anyhow::anyhow;
 use combination::respond;
 use std::env;

@@ -1,4 +1,6 @@
 //! Prints the 28 figures of a company whose lines stand in this program, under the tables of QIS3.
+#![tactic(auto)]
+
 mod book;
 mod qis3;
 

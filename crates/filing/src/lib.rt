@@ -1,4 +1,5 @@
 //! A filing: a year, a quarter, seven tables and up to 128 lines, and the calls on it.
+#![tactic(auto)]
 
 mod fault;
 mod filing;

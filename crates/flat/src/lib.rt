@@ -1,4 +1,5 @@
 //! A charge whose low and high are given: a second make of charge, of which the formula knows nothing.
+#![tactic(auto)]
 
 mod flat;
 #[cfg(test)]

@@ -1,4 +1,5 @@
 //! The capital formula over any charges that keep the terms.
+#![tactic(auto)]
 
 mod beside;
 mod figures;

@@ -1,4 +1,5 @@
 //! Lines of an insurer's filing: the rules of each kind of line, and totals over a list of lines.
+#![tactic(auto)]
 
 mod fault;
 mod fields;

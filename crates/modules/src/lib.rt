@@ -1,4 +1,5 @@
 //! Charges with members: lists of charges, and modules of them under a table.
+#![tactic(auto)]
 
 mod members;
 mod module;

@@ -52,17 +52,13 @@ module _ (n : ℕ) (given : List ℕ) where
       go false e = grind (arith, nat_tests)
 
   -- so they keep the invariant of a table
-  pub kept : (cells : List ℕ) → n ≤ 16 → ((i : ℕ) → get_or given i 0 ≤ 100) → ((k : ℕ) → k < 256 → get_or cells k 0 ≡ filled n given (k / 16) (k % 16)) → ((r c : ℕ) → entry cells r c ≡ entry cells c r) × (((r : ℕ) → entry cells r r ≡ 100) × (((r c : ℕ) → entry cells r c ≤ 100) × (((r c : ℕ) → n ≤ c → entry cells r c ≡ identity r c) × Unit {0})))
+  pub kept : (cells : List ℕ) → n ≤ 16 → ((i : ℕ) → get_or given i 0 ≤ 100) → ((k : ℕ) → k < 256 → get_or cells k 0 ≡ filled n given (k / 16) (k % 16)) → ((r c : ℕ) → entry cells r c ≡ entry cells c r) × ((r : ℕ) → entry cells r r ≡ 100) × ((r c : ℕ) → entry cells r c ≤ 100) × ((r c : ℕ) → n ≤ c → entry cells r c ≡ identity r c)
   kept cells few small h =
       let e = entry_filled cells few h in (
         λ r c. e r c ∙ filled_symmetric r c ∙ sym (e c r),
-        (
-          λ r. e r r ∙ filled_diagonal r,
-          (
-            λ r c. subst (λ v. v ≤ 100) (sym (e r c)) (filled_small small r c),
-            (λ r c past. e r c ∙ filled_outside r c past, tt),
-          ),
-        ),
+        λ r. e r r ∙ filled_diagonal r,
+        λ r c. subst (λ v. v ≤ 100) (sym (e r c)) (filled_small small r c),
+        λ r c past. e r c ∙ filled_outside r c past,
       )
 
   pub cells_next : (cells : List ℕ) (i v : ℕ) → i < length cells → v ≡ filled n given (i / 16) (i % 16) → ((k : ℕ) → k < i → get_or cells k 0 ≡ filled n given (k / 16) (k % 16)) → (k : ℕ) → k < i + 1 → get_or (set cells i v) k 0 ≡ filled n given (k / 16) (k % 16)

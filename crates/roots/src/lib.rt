@@ -1,5 +1,6 @@
 //! Amounts combined under a table of correlations: the quadratic form and its two whole roots.
 //! Nothing here knows what the amounts stand for.
+#![tactic(auto)]
 
 mod amounts;
 mod root;

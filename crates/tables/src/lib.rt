@@ -1,4 +1,5 @@
 //! The seven correlation tables of a filing, by their numbers.
+#![tactic(auto)]
 
 mod fault;
 mod tables;

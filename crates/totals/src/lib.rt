@@ -1,4 +1,5 @@
 //! Totals over a list of lines, by kind and class.
+#![tactic(auto)]
 
 mod sums;
 mod totals;

@@ -1,5 +1,7 @@
 //! A trial quarter from beginning to end: opens a filing, replaces its tables by those of QIS3, enters
 //! the lines of a company, is refused once, strikes a line, and works out the 28 figures.
+#![tactic(auto)]
+
 mod book;
 mod qis3;
 

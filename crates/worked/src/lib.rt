@@ -1,4 +1,5 @@
 //! Worked examples of the crates below, as tests.
+#![tactic(auto)]
 
 #[cfg(test)]
 mod combining;

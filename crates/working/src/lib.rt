@@ -1,4 +1,5 @@
 //! Working out the figures of a filing, by any choice of charges.
+#![tactic(auto)]
 
 mod figure;
 mod work;

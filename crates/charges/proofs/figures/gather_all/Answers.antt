@@ -6,102 +6,102 @@ use Rattle.charges.proofs.figures.gather_all.Goals as goal
 
 -- In the answers, h0 is what is held at first, and h1 to h5 after the first to the fifth list.
 
-pub gather-next-requires-2 : goal.gather-next-requires-2
-gather-next-requires-2 g c =
-    let l1 = longer (g.Market.Members.each c.args.charges.now.market) (held c.args.pairs.now) (held c.gather-next.new.pairs) _ c.in-ok-gather-next.ensures.1 (g.met.Market.Members.counted c.args.charges.now.market) in
+pub gather_next-requires-2 : goal.gather_next-requires-2
+gather_next-requires-2 g c =
+    let l1 = longer (g.Market.Members.each c.args.charges.now.market) (held c.args.pairs.now) (held c.gather_next.new.pairs) _ c.in_ok-gather_next.ensures.1 (g.met.Market.Members.counted c.args.charges.now.market) in
     record { make = c.requires.make.1; room = omega (arith, c.requires.shown, c.requires.basic, c.requires.none) }
 
-pub gather-next-requires-3 : goal.gather-next-requires-3
-gather-next-requires-3 g c =
-    let l1 = longer (g.Market.Members.each c.args.charges.now.market) (held c.args.pairs.now) (held c.gather-next.new.pairs) _ c.in-ok-gather-next.ensures.1 (g.met.Market.Members.counted c.args.charges.now.market) in
-    let l2 = longer (g.Life.Members.each c.args.charges.now.life) (held c.gather-next.new.pairs) (held c.gather-next-2.new.pairs) _ c.in-ok-gather-next-2.ensures.1 (g.met.Life.Members.counted c.args.charges.now.life) in
+pub gather_next-requires-3 : goal.gather_next-requires-3
+gather_next-requires-3 g c =
+    let l1 = longer (g.Market.Members.each c.args.charges.now.market) (held c.args.pairs.now) (held c.gather_next.new.pairs) _ c.in_ok-gather_next.ensures.1 (g.met.Market.Members.counted c.args.charges.now.market) in
+    let l2 = longer (g.Life.Members.each c.args.charges.now.life) (held c.gather_next.new.pairs) (held c.gather_next-2.new.pairs) _ c.in_ok-gather_next-2.ensures.1 (g.met.Life.Members.counted c.args.charges.now.life) in
     record { make = c.requires.make.2; room = omega (arith, c.requires.shown, c.requires.basic, c.requires.none) }
 
-pub gather-next-requires-4 : goal.gather-next-requires-4
-gather-next-requires-4 g c =
-    let l1 = longer (g.Market.Members.each c.args.charges.now.market) (held c.args.pairs.now) (held c.gather-next.new.pairs) _ c.in-ok-gather-next.ensures.1 (g.met.Market.Members.counted c.args.charges.now.market) in
-    let l2 = longer (g.Life.Members.each c.args.charges.now.life) (held c.gather-next.new.pairs) (held c.gather-next-2.new.pairs) _ c.in-ok-gather-next-2.ensures.1 (g.met.Life.Members.counted c.args.charges.now.life) in
-    let l3 = longer (g.Health.Members.each c.args.charges.now.health) (held c.gather-next-2.new.pairs) (held c.gather-next-3.new.pairs) _ c.in-ok-gather-next-3.ensures.1 (g.met.Health.Members.counted c.args.charges.now.health) in
+pub gather_next-requires-4 : goal.gather_next-requires-4
+gather_next-requires-4 g c =
+    let l1 = longer (g.Market.Members.each c.args.charges.now.market) (held c.args.pairs.now) (held c.gather_next.new.pairs) _ c.in_ok-gather_next.ensures.1 (g.met.Market.Members.counted c.args.charges.now.market) in
+    let l2 = longer (g.Life.Members.each c.args.charges.now.life) (held c.gather_next.new.pairs) (held c.gather_next-2.new.pairs) _ c.in_ok-gather_next-2.ensures.1 (g.met.Life.Members.counted c.args.charges.now.life) in
+    let l3 = longer (g.Health.Members.each c.args.charges.now.health) (held c.gather_next-2.new.pairs) (held c.gather_next-3.new.pairs) _ c.in_ok-gather_next-3.ensures.1 (g.met.Health.Members.counted c.args.charges.now.health) in
     record { make = c.requires.make.3; room = omega (arith, c.requires.shown, c.requires.basic, c.requires.none) }
 
-pub gather-next-requires-5 : goal.gather-next-requires-5
-gather-next-requires-5 g c =
-    let l1 = longer (g.Market.Members.each c.args.charges.now.market) (held c.args.pairs.now) (held c.gather-next.new.pairs) _ c.in-ok-gather-next.ensures.1 (g.met.Market.Members.counted c.args.charges.now.market) in
-    let l2 = longer (g.Life.Members.each c.args.charges.now.life) (held c.gather-next.new.pairs) (held c.gather-next-2.new.pairs) _ c.in-ok-gather-next-2.ensures.1 (g.met.Life.Members.counted c.args.charges.now.life) in
-    let l3 = longer (g.Health.Members.each c.args.charges.now.health) (held c.gather-next-2.new.pairs) (held c.gather-next-3.new.pairs) _ c.in-ok-gather-next-3.ensures.1 (g.met.Health.Members.counted c.args.charges.now.health) in
-    let l4 = longer (g.NonLife.Members.each c.args.charges.now.non_life) (held c.gather-next-3.new.pairs) (held c.gather-next-4.new.pairs) _ c.in-ok-gather-next-4.ensures.1 (g.met.NonLife.Members.counted c.args.charges.now.non_life) in
+pub gather_next-requires-5 : goal.gather_next-requires-5
+gather_next-requires-5 g c =
+    let l1 = longer (g.Market.Members.each c.args.charges.now.market) (held c.args.pairs.now) (held c.gather_next.new.pairs) _ c.in_ok-gather_next.ensures.1 (g.met.Market.Members.counted c.args.charges.now.market) in
+    let l2 = longer (g.Life.Members.each c.args.charges.now.life) (held c.gather_next.new.pairs) (held c.gather_next-2.new.pairs) _ c.in_ok-gather_next-2.ensures.1 (g.met.Life.Members.counted c.args.charges.now.life) in
+    let l3 = longer (g.Health.Members.each c.args.charges.now.health) (held c.gather_next-2.new.pairs) (held c.gather_next-3.new.pairs) _ c.in_ok-gather_next-3.ensures.1 (g.met.Health.Members.counted c.args.charges.now.health) in
+    let l4 = longer (g.NonLife.Members.each c.args.charges.now.non_life) (held c.gather_next-3.new.pairs) (held c.gather_next-4.new.pairs) _ c.in_ok-gather_next-4.ensures.1 (g.met.NonLife.Members.counted c.args.charges.now.non_life) in
     record { make = c.requires.make.4; room = omega (arith, c.requires.shown, c.requires.basic, c.requires.none) }
 
-pub returns-in-err-gather-next : goal.returns-in-err-gather-next
-returns-in-err-gather-next g c =
+pub returns-in_err-gather_next : goal.returns-in_err-gather_next
+returns-in_err-gather_next g c =
     let market = g.Market.Members.each c.args.charges.now.market in
     let life = g.Life.Members.each c.args.charges.now.life in
     let health = g.Health.Members.each c.args.charges.now.health in
     let non_life = g.NonLife.Members.each c.args.charges.now.non_life in
     let basic = g.Basic.Members.each c.args.charges.now.basic in
     let h0 = held c.args.pairs.now in
-    let p = err_from_is_err_and c.from-residual.result c.from-residual.ensures.1 in
-    rw (p.1, p.2) (early (((market ++ life) ++ health) ++ non_life) basic h0 _ (early ((market ++ life) ++ health) non_life h0 _ (early (market ++ life) health h0 _ (early market life h0 _ c.in-err-gather-next.ensures))))
+    let p = err_from_is_err_and c.from_residual.result c.from_residual.ensures.1 in
+    rw (p.1, p.2) (early (((market ++ life) ++ health) ++ non_life) basic h0 _ (early ((market ++ life) ++ health) non_life h0 _ (early (market ++ life) health h0 _ (early market life h0 _ c.in_err-gather_next.ensures))))
 
-pub returns-in-err-gather-next-2 : goal.returns-in-err-gather-next-2
-returns-in-err-gather-next-2 g c =
+pub returns-in_err-gather_next-2 : goal.returns-in_err-gather_next-2
+returns-in_err-gather_next-2 g c =
     let market = g.Market.Members.each c.args.charges.now.market in
     let life = g.Life.Members.each c.args.charges.now.life in
     let health = g.Health.Members.each c.args.charges.now.health in
     let non_life = g.NonLife.Members.each c.args.charges.now.non_life in
     let basic = g.Basic.Members.each c.args.charges.now.basic in
     let h0 = held c.args.pairs.now in
-    let h1 = held c.gather-next.new.pairs in
-    let p = err_from_is_err_and c.from-residual-in-err-gather-next-2.result c.from-residual-in-err-gather-next-2.ensures.1 in
-    rw (p.1, p.2) (early (((market ++ life) ++ health) ++ non_life) basic h0 _ (early ((market ++ life) ++ health) non_life h0 _ (early (market ++ life) health h0 _ (late market life h0 h1 c.in-ok-gather-next.ensures _ c.in-err-gather-next-2.ensures))))
+    let h1 = held c.gather_next.new.pairs in
+    let p = err_from_is_err_and c.from_residual-in_err-gather_next-2.result c.from_residual-in_err-gather_next-2.ensures.1 in
+    rw (p.1, p.2) (early (((market ++ life) ++ health) ++ non_life) basic h0 _ (early ((market ++ life) ++ health) non_life h0 _ (early (market ++ life) health h0 _ (late market life h0 h1 c.in_ok-gather_next.ensures _ c.in_err-gather_next-2.ensures))))
 
-pub returns-in-err-gather-next-3 : goal.returns-in-err-gather-next-3
-returns-in-err-gather-next-3 g c =
+pub returns-in_err-gather_next-3 : goal.returns-in_err-gather_next-3
+returns-in_err-gather_next-3 g c =
     let market = g.Market.Members.each c.args.charges.now.market in
     let life = g.Life.Members.each c.args.charges.now.life in
     let health = g.Health.Members.each c.args.charges.now.health in
     let non_life = g.NonLife.Members.each c.args.charges.now.non_life in
     let basic = g.Basic.Members.each c.args.charges.now.basic in
     let h0 = held c.args.pairs.now in
-    let h1 = held c.gather-next.new.pairs in
-    let h2 = held c.gather-next-2.new.pairs in
-    let ok2 = both market life h0 h1 c.in-ok-gather-next.ensures h2 c.in-ok-gather-next-2.ensures in
-    let p = err_from_is_err_and c.from-residual-in-err-gather-next-3.result c.from-residual-in-err-gather-next-3.ensures.1 in
-    rw (p.1, p.2) (early (((market ++ life) ++ health) ++ non_life) basic h0 _ (early ((market ++ life) ++ health) non_life h0 _ (late (market ++ life) health h0 h2 ok2 _ c.in-err-gather-next-3.ensures)))
+    let h1 = held c.gather_next.new.pairs in
+    let h2 = held c.gather_next-2.new.pairs in
+    let ok2 = both market life h0 h1 c.in_ok-gather_next.ensures h2 c.in_ok-gather_next-2.ensures in
+    let p = err_from_is_err_and c.from_residual-in_err-gather_next-3.result c.from_residual-in_err-gather_next-3.ensures.1 in
+    rw (p.1, p.2) (early (((market ++ life) ++ health) ++ non_life) basic h0 _ (early ((market ++ life) ++ health) non_life h0 _ (late (market ++ life) health h0 h2 ok2 _ c.in_err-gather_next-3.ensures)))
 
-pub returns-in-err-gather-next-4 : goal.returns-in-err-gather-next-4
-returns-in-err-gather-next-4 g c =
+pub returns-in_err-gather_next-4 : goal.returns-in_err-gather_next-4
+returns-in_err-gather_next-4 g c =
     let market = g.Market.Members.each c.args.charges.now.market in
     let life = g.Life.Members.each c.args.charges.now.life in
     let health = g.Health.Members.each c.args.charges.now.health in
     let non_life = g.NonLife.Members.each c.args.charges.now.non_life in
     let basic = g.Basic.Members.each c.args.charges.now.basic in
     let h0 = held c.args.pairs.now in
-    let h1 = held c.gather-next.new.pairs in
-    let h2 = held c.gather-next-2.new.pairs in
-    let h3 = held c.gather-next-3.new.pairs in
-    let ok2 = both market life h0 h1 c.in-ok-gather-next.ensures h2 c.in-ok-gather-next-2.ensures in
-    let ok3 = both (market ++ life) health h0 h2 ok2 h3 c.in-ok-gather-next-3.ensures in
-    let p = err_from_is_err_and c.from-residual-in-err-gather-next-4.result c.from-residual-in-err-gather-next-4.ensures.1 in
-    rw (p.1, p.2) (early (((market ++ life) ++ health) ++ non_life) basic h0 _ (late ((market ++ life) ++ health) non_life h0 h3 ok3 _ c.in-err-gather-next-4.ensures))
+    let h1 = held c.gather_next.new.pairs in
+    let h2 = held c.gather_next-2.new.pairs in
+    let h3 = held c.gather_next-3.new.pairs in
+    let ok2 = both market life h0 h1 c.in_ok-gather_next.ensures h2 c.in_ok-gather_next-2.ensures in
+    let ok3 = both (market ++ life) health h0 h2 ok2 h3 c.in_ok-gather_next-3.ensures in
+    let p = err_from_is_err_and c.from_residual-in_err-gather_next-4.result c.from_residual-in_err-gather_next-4.ensures.1 in
+    rw (p.1, p.2) (early (((market ++ life) ++ health) ++ non_life) basic h0 _ (late ((market ++ life) ++ health) non_life h0 h3 ok3 _ c.in_err-gather_next-4.ensures))
 
-pub returns-in-err-gather-next-5 : goal.returns-in-err-gather-next-5
-returns-in-err-gather-next-5 g c =
+pub returns-in_err-gather_next-5 : goal.returns-in_err-gather_next-5
+returns-in_err-gather_next-5 g c =
     let market = g.Market.Members.each c.args.charges.now.market in
     let life = g.Life.Members.each c.args.charges.now.life in
     let health = g.Health.Members.each c.args.charges.now.health in
     let non_life = g.NonLife.Members.each c.args.charges.now.non_life in
     let basic = g.Basic.Members.each c.args.charges.now.basic in
     let h0 = held c.args.pairs.now in
-    let h1 = held c.gather-next.new.pairs in
-    let h2 = held c.gather-next-2.new.pairs in
-    let h3 = held c.gather-next-3.new.pairs in
-    let h4 = held c.gather-next-4.new.pairs in
-    let ok2 = both market life h0 h1 c.in-ok-gather-next.ensures h2 c.in-ok-gather-next-2.ensures in
-    let ok3 = both (market ++ life) health h0 h2 ok2 h3 c.in-ok-gather-next-3.ensures in
-    let ok4 = both ((market ++ life) ++ health) non_life h0 h3 ok3 h4 c.in-ok-gather-next-4.ensures in
-    let p = err_from_is_err_and c.from-residual-in-err-gather-next-5.result c.from-residual-in-err-gather-next-5.ensures.1 in
-    rw (p.1, p.2) (late (((market ++ life) ++ health) ++ non_life) basic h0 h4 ok4 _ c.in-err-gather-next-5.ensures)
+    let h1 = held c.gather_next.new.pairs in
+    let h2 = held c.gather_next-2.new.pairs in
+    let h3 = held c.gather_next-3.new.pairs in
+    let h4 = held c.gather_next-4.new.pairs in
+    let ok2 = both market life h0 h1 c.in_ok-gather_next.ensures h2 c.in_ok-gather_next-2.ensures in
+    let ok3 = both (market ++ life) health h0 h2 ok2 h3 c.in_ok-gather_next-3.ensures in
+    let ok4 = both ((market ++ life) ++ health) non_life h0 h3 ok3 h4 c.in_ok-gather_next-4.ensures in
+    let p = err_from_is_err_and c.from_residual-in_err-gather_next-5.result c.from_residual-in_err-gather_next-5.ensures.1 in
+    rw (p.1, p.2) (late (((market ++ life) ++ health) ++ non_life) basic h0 h4 ok4 _ c.in_err-gather_next-5.ensures)
 
 pub returns : goal.returns
 returns g c =
@@ -111,13 +111,13 @@ returns g c =
     let non_life = g.NonLife.Members.each c.args.charges.now.non_life in
     let basic = g.Basic.Members.each c.args.charges.now.basic in
     let h0 = held c.args.pairs.now in
-    let h1 = held c.gather-next.new.pairs in
-    let h2 = held c.gather-next-2.new.pairs in
-    let h3 = held c.gather-next-3.new.pairs in
-    let h4 = held c.gather-next-4.new.pairs in
-    let h5 = held c.gather-next-5.new.pairs in
-    let ok2 = both market life h0 h1 c.in-ok-gather-next.ensures h2 c.in-ok-gather-next-2.ensures in
-    let ok3 = both (market ++ life) health h0 h2 ok2 h3 c.in-ok-gather-next-3.ensures in
-    let ok4 = both ((market ++ life) ++ health) non_life h0 h3 ok3 h4 c.in-ok-gather-next-4.ensures in
-    let ok5 = both (((market ++ life) ++ health) ++ non_life) basic h0 h4 ok4 h5 c.in-ok-gather-next-5.ensures in
+    let h1 = held c.gather_next.new.pairs in
+    let h2 = held c.gather_next-2.new.pairs in
+    let h3 = held c.gather_next-3.new.pairs in
+    let h4 = held c.gather_next-4.new.pairs in
+    let h5 = held c.gather_next-5.new.pairs in
+    let ok2 = both market life h0 h1 c.in_ok-gather_next.ensures h2 c.in_ok-gather_next-2.ensures in
+    let ok3 = both (market ++ life) health h0 h2 ok2 h3 c.in_ok-gather_next-3.ensures in
+    let ok4 = both ((market ++ life) ++ health) non_life h0 h3 ok3 h4 c.in_ok-gather_next-4.ensures in
+    let ok5 = both (((market ++ life) ++ health) ++ non_life) basic h0 h4 ok4 h5 c.in_ok-gather_next-5.ensures in
     ok5

@@ -5,13 +5,13 @@ use Rattle.charges.specs.Held.{held}
 use Rattle.charges.specs.Meaning.{large}
 use Rattle.charges.proofs.figures.gather_next.Goals as goal
 
-pub overflow-add-result : goal.overflow-add-result
-overflow-add-result g c =
+pub overflow_add-result : goal.overflow_add-result
+overflow_add-result g c =
     let ms = g.Ms.Members.each c.args.members.now in
     omega (arith, found_within large ms c.in-Err.place c.in-Err.ensures, g.met.Ms.Members.counted c.args.members.now, c.requires.room)
 
-pub overflow-cast-result : goal.overflow-cast-result
-overflow-cast-result g c =
+pub overflow_cast-result : goal.overflow_cast-result
+overflow_cast-result g c =
     let ms = g.Ms.Members.each c.args.members.now in
     omega (arith, found_within large ms c.in-Err.place c.in-Err.ensures, g.met.Ms.Members.counted c.args.members.now, c.requires.room, c.len-before.ensures.value)
 

@@ -27,12 +27,12 @@ finish-requires g c =
     let members = g.Basic.Members.each ch.basic in
     let shown = market ++ life ++ health ++ non_life in
     let many = four market life health non_life 18 (g.met.Market.Members.counted ch.market) (g.met.Life.Members.counted ch.life) (g.met.Health.Members.counted ch.health) (g.met.NonLife.Members.counted ch.non_life) c.requires.shown in
-    let got = c.in-ok-gather-all.ensures in
+    let got = c.in_ok-gather_all.ensures in
     let is = got.1 ∙ ap (λ l. l ++ all_bounds (shown ++ members)) c.new-pairs.ensures in
     omega (arith, ap length is, bounds_length (shown ++ members), length-append shown members, many, g.met.Basic.Members.counted ch.basic, c.requires.basic)
 
-pub returns-in-err-gather-all : goal.returns-in-err-gather-all
-returns-in-err-gather-all g c =
+pub returns-in_err-gather_all : goal.returns-in_err-gather_all
+returns-in_err-gather_all g c =
     let ch = c.args.charges.now in
     let market = g.Market.Members.each ch.market in
     let life = g.Life.Members.each ch.life in
@@ -40,12 +40,12 @@ returns-in-err-gather-all g c =
     let non_life = g.NonLife.Members.each ch.non_life in
     let members = g.Basic.Members.each ch.basic in
     let shown = market ++ life ++ health ++ non_life in
-    let p = err_from_is_err_and c.from-residual.result c.from-residual.ensures.1 in
-    let found = from_none (held c.new-pairs.result) (first_large (shown ++ members)) _ c.new-pairs.ensures c.in-err-gather-all.ensures in
+    let p = err_from_is_err_and c.from_residual.result c.from_residual.ensures.1 in
+    let found = from_none (held c.new-pairs.result) (first_large (shown ++ members)) _ c.new-pairs.ensures c.in_err-gather_all.ensures in
     rw (p.1, p.2) (some_before (shown ++ members) (last (correlation c.args.table.now) c.args.beside.now shown members) _ found, refl)
 
-pub returns-in-err-figures : goal.returns-in-err-figures
-returns-in-err-figures g c =
+pub returns-in_err-figures : goal.returns-in_err-figures
+returns-in_err-figures g c =
     let ch = c.args.charges.now in
     let market = g.Market.Members.each ch.market in
     let life = g.Life.Members.each ch.life in
@@ -55,10 +55,10 @@ returns-in-err-figures g c =
     let shown = market ++ life ++ health ++ non_life in
     let many = four market life health non_life 18 (g.met.Market.Members.counted ch.market) (g.met.Life.Members.counted ch.life) (g.met.Health.Members.counted ch.health) (g.met.NonLife.Members.counted ch.non_life) c.requires.shown in
     let terms = g.met.Basic.Members.terms ch.basic in
-    let got = c.in-ok-gather-all.ensures in
+    let got = c.in_ok-gather_all.ensures in
     let is = got.1 ∙ ap (λ l. l ++ all_bounds (shown ++ members)) c.new-pairs.ensures in
-    let p = err_from_is_err_and c.from-residual-in-err-figures.result c.from-residual-in-err-figures.ensures.1 in
-    rw (p.1, p.2) (c.in-err-figures.ensures shown members terms many got.0 is, refl)
+    let p = err_from_is_err_and c.from_residual-in_err-figures.result c.from_residual-in_err-figures.ensures.1 in
+    rw (p.1, p.2) (c.in_err-figures.ensures shown members terms many got.0 is, refl)
 
 pub returns : goal.returns
 returns g c =
@@ -71,9 +71,9 @@ returns g c =
     let shown = market ++ life ++ health ++ non_life in
     let many = four market life health non_life 18 (g.met.Market.Members.counted ch.market) (g.met.Life.Members.counted ch.life) (g.met.Health.Members.counted ch.health) (g.met.NonLife.Members.counted ch.non_life) c.requires.shown in
     let terms = g.met.Basic.Members.terms ch.basic in
-    let got = c.in-ok-gather-all.ensures in
+    let got = c.in_ok-gather_all.ensures in
     let is = got.1 ∙ ap (λ l. l ++ all_bounds (shown ++ members)) c.new-pairs.ensures in
     let shown_terms =
     all-++ (market ++ life ++ health) non_life (all-++ (market ++ life) health (all-++ market life (g.met.Market.Members.terms ch.market) (g.met.Life.Members.terms ch.life)) (g.met.Health.Members.terms ch.health)) (g.met.NonLife.Members.terms ch.non_life)
     in
-    worked (correlation c.args.table.now) (table_sound c.args.table.now) c.args.beside.now shown members shown_terms terms _ (c.in-ok-figures.ensures shown members terms many got.0 is)
+    worked (correlation c.args.table.now) (table_sound c.args.table.now) c.args.beside.now shown members shown_terms terms _ (c.in_ok-figures.ensures shown members terms many got.0 is)

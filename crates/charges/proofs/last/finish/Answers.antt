@@ -12,57 +12,57 @@ use Rattle.charges.proofs.last.finish.Goals as goal
 longer : (before after : List (ℕ × ℕ)) (p : ℕ × ℕ) → after ≡ before ++ (p ∷ []) → length after ≡ length before + 1
 longer before after p e = ap length e ∙ length_push before p
 
-pub push-next-requires-2 : goal.push-next-requires-2
-push-next-requires-2 c = omega (arith, longer _ _ _ c.in-ok-push-next.ensures.1, c.requires)
+pub push_next-requires-2 : goal.push_next-requires-2
+push_next-requires-2 c = omega (arith, longer _ _ _ c.in_ok-push_next.ensures.1, c.requires)
 
-pub push-next-requires-3 : goal.push-next-requires-3
-push-next-requires-3 c = omega (arith, longer _ _ _ c.in-ok-push-next.ensures.1, longer _ _ _ c.in-ok-push-next-2.ensures.1, c.requires)
+pub push_next-requires-3 : goal.push_next-requires-3
+push_next-requires-3 c = omega (arith, longer _ _ _ c.in_ok-push_next.ensures.1, longer _ _ _ c.in_ok-push_next-2.ensures.1, c.requires)
 
-pub push-next-requires-4 : goal.push-next-requires-4
-push-next-requires-4 c =
-    omega (arith, longer _ _ _ c.in-ok-push-next.ensures.1, longer _ _ _ c.in-ok-push-next-2.ensures.1, longer _ _ _ c.in-ok-push-next-3.ensures.1, c.requires)
+pub push_next-requires-4 : goal.push_next-requires-4
+push_next-requires-4 c =
+    omega (arith, longer _ _ _ c.in_ok-push_next.ensures.1, longer _ _ _ c.in_ok-push_next-2.ensures.1, longer _ _ _ c.in_ok-push_next-3.ensures.1, c.requires)
 
-pub and-last-requires : goal.and-last-requires
-and-last-requires c =
-    omega (arith, longer _ _ _ c.in-ok-push-next.ensures.1, longer _ _ _ c.in-ok-push-next-2.ensures.1, longer _ _ _ c.in-ok-push-next-3.ensures.1, longer _ _ _ c.in-ok-push-next-4.ensures.1, c.requires)
+pub and_last-requires : goal.and_last-requires
+and_last-requires c =
+    omega (arith, longer _ _ _ c.in_ok-push_next.ensures.1, longer _ _ _ c.in_ok-push_next-2.ensures.1, longer _ _ _ c.in_ok-push_next-3.ensures.1, longer _ _ _ c.in_ok-push_next-4.ensures.1, c.requires)
 
-pub overflow-add-scr : goal.overflow-add-scr
-overflow-add-scr c = omega (arith, small_sides (c.combined-low.result.0, c.combined-high.result.1) c.in-ok-push-next.ensures.0, small_sides (c.operational-o-low.result.0, c.operational-o-low.result.1) c.in-ok-push-next-2.ensures.0)
+pub overflow_add-scr : goal.overflow_add-scr
+overflow_add-scr c = omega (arith, small_sides (c.combined-low.result.0, c.combined-high.result.1) c.in_ok-push_next.ensures.0, small_sides (c.operational-o_low.result.0, c.operational-o_low.result.1) c.in_ok-push_next-2.ensures.0)
 
-pub overflow-add-scr-2 : goal.overflow-add-scr-2
-overflow-add-scr-2 c = omega (arith, small_sides (c.combined-low.result.0, c.combined-high.result.1) c.in-ok-push-next.ensures.0, small_sides (c.operational-o-low.result.0, c.operational-o-low.result.1) c.in-ok-push-next-2.ensures.0)
+pub overflow_add-scr-2 : goal.overflow_add-scr-2
+overflow_add-scr-2 c = omega (arith, small_sides (c.combined-low.result.0, c.combined-high.result.1) c.in_ok-push_next.ensures.0, small_sides (c.operational-o_low.result.0, c.operational-o_low.result.1) c.in_ok-push_next-2.ensures.0)
 
-pub returns-in-err-push-next : goal.returns-in-err-push-next
-returns-in-err-push-next c = λ shown members terms many none is.
+pub returns-in_err-push_next : goal.returns-in_err-push_next
+returns-in_err-push_next c = λ shown members terms many none is.
     let e = correlation c.args.table.now in
     let t = c.args.beside.now in
     let own = basic_pair e (table_sound c.args.table.now) t shown members terms (held c.args.pairs) (none, is) many _ _ c.combined-low.result c.combined-high.result c.side-lows.ensures c.side-highs.ensures c.combined-low.ensures.value c.combined-high.ensures.value in
-    let p = err_from_is_err_and c.from-residual.result c.from-residual.ensures.1 in
-    rw (p.1, p.2) (stop_basic e (table_sound c.args.table.now) t shown members terms (held c.args.pairs) (none, is) _ own _ c.in-err-push-next.ensures)
+    let p = err_from_is_err_and c.from_residual.result c.from_residual.ensures.1 in
+    rw (p.1, p.2) (stop_basic e (table_sound c.args.table.now) t shown members terms (held c.args.pairs) (none, is) _ own _ c.in_err-push_next.ensures)
 
-pub returns-in-err-push-next-2 : goal.returns-in-err-push-next-2
-returns-in-err-push-next-2 c = λ shown members terms many none is.
+pub returns-in_err-push_next-2 : goal.returns-in_err-push_next-2
+returns-in_err-push_next-2 c = λ shown members terms many none is.
     let e = correlation c.args.table.now in
     let t = c.args.beside.now in
     let own = basic_pair e (table_sound c.args.table.now) t shown members terms (held c.args.pairs) (none, is) many _ _ c.combined-low.result c.combined-high.result c.side-lows.ensures c.side-highs.ensures c.combined-low.ensures.value c.combined-high.ensures.value in
-    let p = err_from_is_err_and c.from-residual-in-err-push-next-2.result c.from-residual-in-err-push-next-2.ensures.1 in
-    rw (p.1, p.2) (stop_operational e (table_sound c.args.table.now) t shown members terms (held c.args.pairs) (none, is) _ own _ c.in-ok-push-next.ensures c.operational-o-low.result c.operational-o-low.ensures _ c.in-err-push-next-2.ensures)
+    let p = err_from_is_err_and c.from_residual-in_err-push_next-2.result c.from_residual-in_err-push_next-2.ensures.1 in
+    rw (p.1, p.2) (stop_operational e (table_sound c.args.table.now) t shown members terms (held c.args.pairs) (none, is) _ own _ c.in_ok-push_next.ensures c.operational-o_low.result c.operational-o_low.ensures _ c.in_err-push_next-2.ensures)
 
-pub returns-in-err-push-next-3 : goal.returns-in-err-push-next-3
-returns-in-err-push-next-3 c = λ shown members terms many none is.
+pub returns-in_err-push_next-3 : goal.returns-in_err-push_next-3
+returns-in_err-push_next-3 c = λ shown members terms many none is.
     let e = correlation c.args.table.now in
     let t = c.args.beside.now in
     let own = basic_pair e (table_sound c.args.table.now) t shown members terms (held c.args.pairs) (none, is) many _ _ c.combined-low.result c.combined-high.result c.side-lows.ensures c.side-highs.ensures c.combined-low.ensures.value c.combined-high.ensures.value in
-    let p = err_from_is_err_and c.from-residual-in-err-push-next-3.result c.from-residual-in-err-push-next-3.ensures.1 in
-    rw (p.1, p.2) (stop_scr e (table_sound c.args.table.now) t shown members terms (held c.args.pairs) (none, is) _ own _ c.in-ok-push-next.ensures c.operational-o-low.result c.operational-o-low.ensures _ c.in-ok-push-next-2.ensures _ refl _ c.in-err-push-next-3.ensures)
+    let p = err_from_is_err_and c.from_residual-in_err-push_next-3.result c.from_residual-in_err-push_next-3.ensures.1 in
+    rw (p.1, p.2) (stop_scr e (table_sound c.args.table.now) t shown members terms (held c.args.pairs) (none, is) _ own _ c.in_ok-push_next.ensures c.operational-o_low.result c.operational-o_low.ensures _ c.in_ok-push_next-2.ensures _ refl _ c.in_err-push_next-3.ensures)
 
-pub returns-in-err-push-next-4 : goal.returns-in-err-push-next-4
-returns-in-err-push-next-4 c = λ shown members terms many none is.
+pub returns-in_err-push_next-4 : goal.returns-in_err-push_next-4
+returns-in_err-push_next-4 c = λ shown members terms many none is.
     let e = correlation c.args.table.now in
     let t = c.args.beside.now in
     let own = basic_pair e (table_sound c.args.table.now) t shown members terms (held c.args.pairs) (none, is) many _ _ c.combined-low.result c.combined-high.result c.side-lows.ensures c.side-highs.ensures c.combined-low.ensures.value c.combined-high.ensures.value in
-    let p = err_from_is_err_and c.from-residual-in-err-push-next-4.result c.from-residual-in-err-push-next-4.ensures.1 in
-    rw (p.1, p.2) (stop_minimum e (table_sound c.args.table.now) t shown members terms (held c.args.pairs) (none, is) _ own _ c.in-ok-push-next.ensures c.operational-o-low.result c.operational-o-low.ensures _ c.in-ok-push-next-2.ensures _ refl _ c.in-ok-push-next-3.ensures c.minimum.result c.minimum.ensures _ c.in-err-push-next-4.ensures)
+    let p = err_from_is_err_and c.from_residual-in_err-push_next-4.result c.from_residual-in_err-push_next-4.ensures.1 in
+    rw (p.1, p.2) (stop_minimum e (table_sound c.args.table.now) t shown members terms (held c.args.pairs) (none, is) _ own _ c.in_ok-push_next.ensures c.operational-o_low.result c.operational-o_low.ensures _ c.in_ok-push_next-2.ensures _ refl _ c.in_ok-push_next-3.ensures c.minimum.result c.minimum.ensures _ c.in_err-push_next-4.ensures)
 
 pub returns : goal.returns
 returns c = λ shown members terms many none is.
@@ -71,7 +71,7 @@ returns c = λ shown members terms many none is.
     let sound = table_sound c.args.table.now in
     let own = basic_pair e sound t shown members terms (held c.args.pairs) (none, is) many _ _ c.combined-low.result c.combined-high.result c.side-lows.ensures c.side-highs.ensures c.combined-low.ensures.value c.combined-high.ensures.value in
     let lows = c.added_up.ensures ∙ ap added (lows_are e sound t shown members terms (held c.args.pairs) (none, is) many _ c.side-lows.ensures) in
-    let highs = c.added-up-2.ensures ∙ ap added (highs_are e sound t shown members terms (held c.args.pairs) (none, is) many _ c.side-highs.ensures) in
-    let d_low : c.saturating-sub.result ≡ added (downs members 1) - c.combined-high.result.1 = c.saturating-sub.ensures ∙ ap (λ n. n - c.combined-high.result.1) lows in
-    let d_high : c.saturating-sub-2.result ≡ added (ups members 1) - c.combined-low.result.0 = c.saturating-sub-2.ensures ∙ ap (λ n. n - c.combined-low.result.0) highs in
-    all_figures e sound t shown members terms (held c.args.pairs) (none, is) _ own _ c.in-ok-push-next.ensures c.operational-o-low.result c.operational-o-low.ensures _ c.in-ok-push-next-2.ensures _ refl _ c.in-ok-push-next-3.ensures c.minimum.result c.minimum.ensures _ _ c.in-ok-push-next-4.ensures _ (ap₂ (λ (l h : ℕ). (l, h)) d_low d_high) c.and-last.ensures
+    let highs = c.added_up-2.ensures ∙ ap added (highs_are e sound t shown members terms (held c.args.pairs) (none, is) many _ c.side-highs.ensures) in
+    let d_low : c.saturating_sub.result ≡ added (downs members 1) - c.combined-high.result.1 = c.saturating_sub.ensures ∙ ap (λ n. n - c.combined-high.result.1) lows in
+    let d_high : c.saturating_sub-2.result ≡ added (ups members 1) - c.combined-low.result.0 = c.saturating_sub-2.ensures ∙ ap (λ n. n - c.combined-low.result.0) highs in
+    all_figures e sound t shown members terms (held c.args.pairs) (none, is) _ own _ c.in_ok-push_next.ensures c.operational-o_low.result c.operational-o_low.ensures _ c.in_ok-push_next-2.ensures _ refl _ c.in_ok-push_next-3.ensures c.minimum.result c.minimum.ensures _ _ c.in_ok-push_next-4.ensures _ (ap₂ (λ (l h : ℕ). (l, h)) d_low d_high) c.and_last.ensures

@@ -21,10 +21,10 @@ within m n h = go (leb 2 n) (leb n 16) refl refl h
 part : (n : ℕ) (values : List ℕ) (xs : List ℕ) → take n values ≡ xs → take (n - 0) values ≡ xs
 part n values xs h = rw sub-zero h
 
-pub returns-in-Ok-from-slice : goal.returns-in-Ok-from-slice
-returns-in-Ok-from-slice c =
+pub returns-in-Ok-from_slice : goal.returns-in-Ok-from_slice
+returns-in-Ok-from_slice c =
     let ws = words c.args.line.now in
-    let made = c.in-Ok-from-slice.ensures in
+    let made = c.in-Ok-from_slice.ensures in
     let read = c.in-Ok.ensures in
     let size = within (members_of c.in-Some.size) c.in-Ok.numbers.count c.in-Some.ensures in
     let least : 2 ≤ length (words c.args.line.now) = omega (arith, size.1, read.1) in
@@ -34,12 +34,12 @@ returns-in-Ok-from-slice c =
       size.0 ∙ read.1 ∙ sym (ap length (made.1 ∙ is) ∙ length-map (numbers ws) _ ∙ length-map ws _),
     )
 
-pub returns-in-Err-from-slice : goal.returns-in-Err-from-slice
-returns-in-Err-from-slice c =
+pub returns-in-Err-from_slice : goal.returns-in-Err-from_slice
+returns-in-Err-from_slice c =
     let ws = words c.args.line.now in
     let read = c.in-Ok.ensures in
     let size = within (members_of c.in-Some.size) c.in-Ok.numbers.count c.in-Some.ensures in
     let least : 2 ≤ length (words c.args.line.now) = omega (arith, size.1, read.1) in
     let most : length (words c.args.line.now) ≤ 16 = omega (arith, size.2, read.1) in
     let is = part c.in-Ok.numbers.count c.in-Ok.numbers.values _ (read.2 (omega arith)) in
-    amounts_wrong ws read.0 least most _ is c.in-Err-from-slice.fault c.in-Ok.numbers.count c.in-Err-from-slice.ensures ∙ ap Err (sym c.amount_fault.ensures)
+    amounts_wrong ws read.0 least most _ is c.in-Err-from_slice.fault c.in-Ok.numbers.count c.in-Err-from_slice.ensures ∙ ap Err (sym c.amount_fault.ensures)

@@ -14,18 +14,18 @@ lent n m values bytes xs e few v h =
     let len = length-take-le n values few in
     rw z (ap (λ k. take k bytes) (sym len) ∙ all ∙ ap (at_most 255) (ap (λ k. take k values) (sym e) ∙ v))
 
-pub returns-in-Ok-from-upper : goal.returns-in-Ok-from-upper
-returns-in-Ok-from-upper c =
+pub returns-in-Ok-from_upper : goal.returns-in-Ok-from_upper
+returns-in-Ok-from_upper c =
     let read = c.in-Ok.ensures in
-    let made = c.in-Ok-from-upper.ensures in
+    let made = c.in-Ok-from_upper.ensures in
     let numbers-in = c.in-Ok.numbers in
-    let is = lent c.entries-wanted.result numbers-in.count numbers-in.values c.to-bytes-bytes.result _ c.if-numbers-wanted.false (search rules) (read.2 (omega (arith, read.1))) c.to-bytes-bytes.ensures in
+    let is = lent c.entries-wanted.result numbers-in.count numbers-in.values c.to_bytes-bytes.result _ c.if-numbers-wanted.false (search rules) (read.2 (omega (arith, read.1))) c.to_bytes-bytes.ensures in
     let right = entries_right (words c.args.line.now) read.0 (members_of c.args.size) (sym read.1 ∙ c.if-numbers-wanted.false ∙ c.entries-wanted.ensures.value) _ is made.0 in
     (right.0, λ i j. made.2 i j ∙ ap (λ given. filled (members_of c.args.size) given i j) right.1)
 
-pub returns-in-Err-from-upper : goal.returns-in-Err-from-upper
-returns-in-Err-from-upper c =
+pub returns-in-Err-from_upper : goal.returns-in-Err-from_upper
+returns-in-Err-from_upper c =
     let read = c.in-Ok.ensures in
     let numbers-in = c.in-Ok.numbers in
-    let is = lent c.entries-wanted.result numbers-in.count numbers-in.values c.to-bytes-bytes.result _ c.if-numbers-wanted.false (search rules) (read.2 (omega (arith, read.1))) c.to-bytes-bytes.ensures in
-    entries_wrong (words c.args.line.now) read.0 (members_of c.args.size) (sym read.1 ∙ c.if-numbers-wanted.false ∙ c.entries-wanted.ensures.value) _ is c.in-Err-from-upper.fault numbers-in.count c.entries-wanted.result c.in-Err-from-upper.ensures ∙ ap Err (sym c.entry_fault.ensures)
+    let is = lent c.entries-wanted.result numbers-in.count numbers-in.values c.to_bytes-bytes.result _ c.if-numbers-wanted.false (search rules) (read.2 (omega (arith, read.1))) c.to_bytes-bytes.ensures in
+    entries_wrong (words c.args.line.now) read.0 (members_of c.args.size) (sym read.1 ∙ c.if-numbers-wanted.false ∙ c.entries-wanted.ensures.value) _ is c.in-Err-from_upper.fault numbers-in.count c.entries-wanted.result c.in-Err-from_upper.ensures ∙ ap Err (sym c.entry_fault.ensures)

@@ -22,10 +22,10 @@ some text rest word back n e l w b h =
 
 pub returns-then-len-eq0 : goal.returns-then-len-eq0
 returns-then-len-eq0 c =
-    none c.args.text.now _ (skipped c.args.text.now c.run.result _ c.run.ensures.value c.split-at.ensures.back) (sym c.run-len.ensures.value ∙ c.if-len-eq0.true)
+    none c.args.text.now _ (skipped c.args.text.now c.run.result _ c.run.ensures.value c.split_at.ensures.back) (sym c.run-len.ensures.value ∙ c.if-len-eq0.true)
 
 pub returns : goal.returns
 returns c = (
-  some c.args.text.now _ _ _ c.run-len.result (skipped c.args.text.now c.run.result _ c.run.ensures.value c.split-at.ensures.back) c.run-len.ensures.value c.split-at-2.ensures.front c.split-at-2.ensures.back (omega arith),
+  some c.args.text.now _ _ _ c.run-len.result (skipped c.args.text.now c.run.result _ c.run.ensures.value c.split_at.ensures.back) c.run-len.ensures.value c.split_at-2.ensures.front c.split_at-2.ensures.back (omega arith),
   omega arith,
 )

@@ -25,7 +25,7 @@ loop-b-preserved c =
     let b = get_or w i 0 in
     let n = c.loop-b.n in
     let limit = 2 ^ 32 - 1 in
-    let value : c.saturating-add-n.result ≡ min (10 * c.loop-b.n + (get_or c.args.word.now c.loop-b.b-index 0 - 48)) (2 ^ 32 - 1) = omega (arith, c.saturating-mul.ensures, c.saturating-add-n.ensures) in (
+    let value : c.saturating_add-n.result ≡ min (10 * c.loop-b.n + (get_or c.args.word.now c.loop-b.b-index 0 - 48)) (2 ^ 32 - 1) = omega (arith, c.saturating_mul.ensures, c.saturating_add-n.ensures) in (
       c.loop-b.invariant.0 ∙ at_drop_more digits w i 0 c.loop-b-test.true ∙ digit b (drop (i + 1) w) c.if-b-lt48.false c.if-b-gt57.false,
       c.loop-b.invariant.1
           ∙ at_drop_more (λ ds. min (number_behind n ds) limit) w i 0 c.loop-b-test.true

@@ -5,13 +5,13 @@ use Rattle.combination.proofs.text.run.Goals as goal
 
 pub loop-i-preserved : goal.loop-i-preserved
 loop-i-preserved c =
-    let yes_at = sym c.is-of.ensures ∙ c.if-not-is-of.false in
+    let yes_at = sym c.is_of.ensures ∙ c.if-not-is_of.false in
     let step = prefix_len-drop_yes (of_kind c.args.kind) c.args.text.now c.loop-i.i 0 c.loop-i-test.true yes_at in
     omega (arith, c.loop-i.invariant)
 
-pub returns-then-not-is-of : goal.returns-then-not-is-of
-returns-then-not-is-of c =
-    let no_at = sym c.is-of.ensures ∙ c.if-not-is-of.true in
+pub returns-then-not-is_of : goal.returns-then-not-is_of
+returns-then-not-is_of c =
+    let no_at = sym c.is_of.ensures ∙ c.if-not-is_of.true in
     let step = prefix_len-drop_no (of_kind c.args.kind) c.args.text.now c.loop-i.i 0 c.loop-i-test.true no_at in
     record { value = omega (arith, c.loop-i.invariant); bound = omega arith }
 

@@ -16,16 +16,16 @@ back_is text n rest back e f g = g ∙ ap (drop 1) (f ∙ ap (λ k. drop k text)
 empty_same : (rest : List ℕ) → length rest ≡ 0 → rest ≡ drop 1 rest
 empty_same rest h = rw (nil_from_length rest h)
 
-pub returns-in-default : goal.returns-in-default
-returns-in-default c =
+pub returns-in_default : goal.returns-in_default
+returns-in_default c =
     record {
-      front = front_is c.args.text.now c.run.result _ c.run.ensures.value c.split-at.ensures.front;
-      back = back_is c.args.text.now c.run.result _ _ c.run.ensures.value c.split-at.ensures.back (empty_same _ c.in-default.ensures.cases);
+      front = front_is c.args.text.now c.run.result _ c.run.ensures.value c.split_at.ensures.front;
+      back = back_is c.args.text.now c.run.result _ _ c.run.ensures.value c.split_at.ensures.back (empty_same _ c.in_default.ensures.cases);
     }
 
 pub returns : goal.returns
 returns c =
     record {
-      front = front_is c.args.text.now c.run.result _ c.run.ensures.value c.split-at.ensures.front;
-      back = back_is c.args.text.now c.run.result _ _ c.run.ensures.value c.split-at.ensures.back (sym (ap (drop 1) c.in-Some.ensures.cases.0));
+      front = front_is c.args.text.now c.run.result _ c.run.ensures.value c.split_at.ensures.front;
+      back = back_is c.args.text.now c.run.result _ _ c.run.ensures.value c.split_at.ensures.back (sym (ap (drop 1) c.in-Some.ensures.cases.0));
     }

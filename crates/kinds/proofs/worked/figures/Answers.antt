@@ -16,4 +16,4 @@ unfolding equity premium_reserve market_module life_module health_module nonlife
 widths_are e t ls ts = refl
 
 pub returns : goal.returns
-returns c = record { answer = c.figures-by.ensures; width = λ ls. widths_are (correlation c.args.tables.now.basic) (beside ls) ls c.args.tables.now; worked = by_hand }
+returns c = record { answer = c.figures_by.ensures; width = λ ls. widths_are (correlation c.args.tables.now.basic) (beside ls) ls c.args.tables.now; worked = by_hand }

@@ -5,8 +5,8 @@ use Rattle.charges.proofs.difference.Difference.larger.Goals as goal
 scaled : (k a b c d : ℕ) → a - b ≤ c - d → k * a - k * b ≤ k * c - k * d
 scaled k a b c d h = omega (arith, mul-sub k a b, mul-sub k c d, mul-le-mul_left k h)
 
-pub returns-then-saturating-sub : goal.returns-then-saturating-sub
-returns-then-saturating-sub c = λ k. omega (arith, scaled k c.args.self.losses c.args.self.gains c.args.other.losses c.args.other.gains (omega arith))
+pub returns-then-saturating_sub : goal.returns-then-saturating_sub
+returns-then-saturating_sub c = λ k. omega (arith, scaled k c.args.self.losses c.args.self.gains c.args.other.losses c.args.other.gains (omega arith))
 
-pub returns-else-saturating-sub : goal.returns-else-saturating-sub
-returns-else-saturating-sub c = λ k. omega (arith, scaled k c.args.other.losses c.args.other.gains c.args.self.losses c.args.self.gains (omega arith))
+pub returns-else-saturating_sub : goal.returns-else-saturating_sub
+returns-else-saturating_sub c = λ k. omega (arith, scaled k c.args.other.losses c.args.other.gains c.args.self.losses c.args.self.gains (omega arith))

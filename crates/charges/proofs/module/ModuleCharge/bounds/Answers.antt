@@ -19,8 +19,8 @@ low_is e ms ps xs r a b h = ap (λ (p : ℕ × ℕ). p.0) h ∙ ap (λ l. lower 
 high_is : (e : ℕ → ℕ → ℕ) (ms : List Meaning) (ps : List (ℕ × ℕ)) (xs : List ℕ) (r : ℕ × ℕ) → ps ≡ all_bounds ms → xs ≡ sides High ps → r ≡ (lower (form e xs), upper (form e xs)) → r.1 ≡ upper (form e (ups ms 1))
 high_is e ms ps xs r a b h = ap (λ (p : ℕ × ℕ). p.1) h ∙ ap (λ l. upper (form e l)) (b ∙ ap (sides High) a ∙ highs_of ms)
 
-pub returns-in-default : goal.returns-in-default
-returns-in-default g c = large_member (correlation c.args.self.now.table) (g.Ms.Members.each c.args.self.now.members) c.in-default.field-0 c.in-default.ensures
+pub returns-in_default : goal.returns-in_default
+returns-in_default g c = large_member (correlation c.args.self.now.table) (g.Ms.Members.each c.args.self.now.members) c.in_default.field-0 c.in_default.ensures
 
 few : (ms : List Meaning) (n : ℕ) (before after : List (ℕ × ℕ)) → before ≡ [] → after ≡ before ++ all_bounds ms → length ms ≡ n → n ≤ 16 → length after ≤ 16
 few ms n before after e h counted small = omega (arith, ap length (all_of ms before after e h), bounds_length ms)

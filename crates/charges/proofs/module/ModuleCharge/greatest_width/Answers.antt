@@ -29,4 +29,4 @@ pub returns : goal.returns
 returns g c =
     let ms = g.Ms.Members.each c.args.self.now.members in
     let counted = g.met.Ms.Members.counted c.args.self.now.members in
-    value _ c.len.result c.ceiling_root.result c.added-widths.result (added (widths ms)) c.saturating-mul.result c.saturating-add.result (2 ^ 32 - 1) (omega (arith, c.requires.0, counted)) c.ceiling_root.ensures.value (omega (arith, c.len.ensures, c.requires.1, counted)) c.added-widths.ensures c.saturating-mul.ensures c.saturating-add.ensures
+    value _ c.len.result c.ceiling_root.result c.added_widths.result (added (widths ms)) c.saturating_mul.result c.saturating_add.result (2 ^ 32 - 1) (omega (arith, c.requires.0, counted)) c.ceiling_root.ensures.value (omega (arith, c.len.ensures, c.requires.1, counted)) c.added_widths.ensures c.saturating_mul.ensures c.saturating_add.ensures

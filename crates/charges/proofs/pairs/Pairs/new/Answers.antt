@@ -6,5 +6,5 @@ zeros f h zero i = h
 zeros f h (suc n) zero = h
 zeros f h (suc n) (suc i) = zeros f h n i
 
-pub invariant-of-result : goal.invariant-of-result
-invariant-of-result c = (refl, (search rules, (zeros (λ p. p.0) (omega arith) 28, (zeros (λ p. p.1) (omega arith) 28, tt))))
+pub invariant_of-result : goal.invariant_of-result
+invariant_of-result c = (refl, (search rules, (zeros (λ p. p.0) (omega arith) 28, (zeros (λ p. p.1) (omega arith) 28, tt))))

@@ -19,8 +19,8 @@ module _ (ps : List (ℕ × ℕ)) (low high : ℕ) where
   high_passes : 16777215 < high → false ≡ fits ps (low, high)
   high_passes a = grind (arith, nat_tests)
 
-pub invariant-of-self : goal.invariant-of-self
-invariant-of-self c =
+pub invariant_of-self : goal.invariant_of-self
+invariant_of-self c =
     let old = c.args.self.now in
     (simp length-set old.full, (search rules, (set_below (λ p. p.0) 16777216 old.values old.len c.args.pair (omega arith) old.lows, (set_below (λ p. p.1) 16777216 old.values old.len c.args.pair (omega arith) old.highs, tt))))
 

@@ -13,8 +13,8 @@ loop-i-preserved c = (
   placed (λ k. first_of c.args.totals.now 17 (k + 1)) c.loop-i.volumes c.loop-i.i c.first.result (omega arith) c.first.ensures.value c.loop-i.invariant.1,
 )
 
-pub invariant-of-result : goal.invariant-of-result
-invariant-of-result c = (c.loop-i.invariant.0, tt)
+pub invariant_of-result : goal.invariant_of-result
+invariant_of-result c = (c.loop-i.invariant.0, tt)
 
 pub returns : goal.returns
 returns c = λ ls tally. businesses_are 15 1 c.loop-i.volumes ls c.loop-i.invariant.0 (λ k h. c.loop-i.invariant.1 k (omega arith) ∙ tally.firsts 17 (k + 1) ∙ ap (λ d. total 17 d ls) (let e : k + 1 ≡ 1 + k = omega arith in e))

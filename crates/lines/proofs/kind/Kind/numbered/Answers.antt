@@ -3,4 +3,4 @@ use Rattle.lines.proofs.kind.Kind.numbered.Goals as goal
 
 pub returns : goal.returns
 unfolding numbered
-returns c = c.kind-of.ensures
+returns c = c.kind_of.ensures

@@ -8,8 +8,8 @@ use Rattle.lines.proofs.sums.Sums.row.Goals as goal
 next : (c : goal.After-at-all) → c.loop-class.all + c.at-all.result ≡ sum (c.loop-class.class + 1) (λ d. cell c.args.self.now c.args.kind d)
 next c = sum_next c.loop-class.class _ _ (λ d. cell c.args.self.now c.args.kind d) c.loop-class.invariant c.at-all.ensures
 
-pub overflow-add-all : goal.overflow-add-all
-overflow-add-all c =
+pub overflow_add-all : goal.overflow_add-all
+overflow_add-all c =
     let f : ℕ → ℕ = λ d. cell c.args.self.now c.args.kind d in
     let front : sum (c.loop-class.class + 1) f ≤ sum 16 f = front_le (c.loop-class.class + 1) 16 f (omega arith) in
     omega (arith, next c, c.requires)

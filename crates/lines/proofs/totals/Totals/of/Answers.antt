@@ -52,8 +52,8 @@ loop-line-preserved c =
       counts = sum_more (λ _. 1) c.loop-line.counts c.add-in-loop-line-2.new.self ls i l _ _ _ c.loop-line-test.true c.line-item.is c.loop-line.invariant.counts kind class refl c.add-in-loop-line-2.ensures;
     }
 
-pub invariant-of-result : goal.invariant-of-result
-invariant-of-result c =
+pub invariant_of-result : goal.invariant_of-result
+invariant_of-result c =
     let ls = c.args.lines.now in
     let few : length ls ≤ 128 = omega arith in
     let sums = adds_all ls c.loop-line.line-index c.loop-line-test.false c.loop-line.invariant in (

@@ -43,15 +43,15 @@ pub loop-amount-preserved : goal.loop-amount-preserved
 loop-amount-preserved c =
     let xs = c.args.given.now in
     let i = c.loop-amount.amount-index in
-    let did = c.in-ok-push.ensures in (
+    let did = c.in_ok-push.ensures in (
       did.after ∙ ap (λ ys. ys ++ get_or xs i 0 ∷ []) c.loop-amount.invariant.0 ∙ sym (take_more xs i 0 c.loop-amount-test.true),
       none_more (ltb 16777215) 0 xs i c.loop-amount-test.true c.loop-amount.invariant.1 (taken (held c.loop-amount.amounts) (get_or xs i 0) did.answer),
     )
 
-pub returns-in-err-push : goal.returns-in-err-push
-returns-in-err-push c =
-    let p = err_from_is_err_and c.from-residual.result c.from-residual.ensures.1 in
-    rw (p.1, p.2) (refused c.args.given.now (held c.loop-amount.amounts) c.loop-amount.amount-index _ c.if-given-gt-MOST.false c.loop-amount-test.true c.loop-amount.invariant.0 c.loop-amount.invariant.1 c.in-err-push.ensures.answer)
+pub returns-in_err-push : goal.returns-in_err-push
+returns-in_err-push c =
+    let p = err_from_is_err_and c.from_residual.result c.from_residual.ensures.1 in
+    rw (p.1, p.2) (refused c.args.given.now (held c.loop-amount.amounts) c.loop-amount.amount-index _ c.if-given-gt-MOST.false c.loop-amount-test.true c.loop-amount.invariant.0 c.loop-amount.invariant.1 c.in_err-push.ensures.answer)
 
 pub returns : goal.returns
 returns c =

@@ -9,8 +9,8 @@ use Rattle.roots.proofs.amounts.Amounts.push.Goals as goal
 fits : (xs : List ℕ) (x : ℕ) → length xs < 16 → x ≤ 16777215 → push_fault xs x ≡ None
 fits xs x few small = grind (arith, nat_tests)
 
-pub invariant-of-self : goal.invariant-of-self
-invariant-of-self c = (search rules, (set_below 16777216 _ _ _ (omega arith) c.args.self.now.small, tt))
+pub invariant_of-self : goal.invariant_of-self
+invariant_of-self c = record { few = search rules; small = set_below 16777216 _ _ _ (omega arith) c.args.self.now.small }
 
 pub returns : goal.returns
 returns c =

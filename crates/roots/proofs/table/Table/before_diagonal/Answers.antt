@@ -3,8 +3,8 @@ use Rattle.roots.proofs.Sums.{sum_next}
 use Rattle.roots.proofs.Tables.{term_value, term_bound}
 use Rattle.roots.proofs.table.Table.before_diagonal.Goals as goal
 
-pub overflow-add-total-in-loop-c : goal.overflow-add-total-in-loop-c
-overflow-add-total-in-loop-c c =
+pub overflow_add-total-in-loop-c : goal.overflow_add-total-in-loop-c
+overflow_add-total-in-loop-c c =
     let most = term_bound c.args.self.now c.args.r c.loop-c.c (get_or c.args.xs.now c.loop-c.c 0) (omega arith) (omega arith) (c.requires.small c.loop-c.c) in
     omega arith
 

@@ -7,8 +7,10 @@ use Rattle.roots.proofs.table.Table.uncorrelated.Goals as goal
 none_given : (n r c : ℕ) → filled n [] r c ≡ identity r c
 none_given n r c = grind (arith, nat_tests)
 
-pub invariant-of-result : goal.invariant-of-result
-invariant-of-result c = kept c.args.size.count [] c.cells-cells.result c.args.size.most (λ i. omega arith) c.cells-cells.ensures
+pub invariant_of-result : goal.invariant_of-result
+invariant_of-result c =
+    let k = kept c.args.size.count [] c.cells-cells.result c.args.size.most (λ i. omega arith) c.cells-cells.ensures in
+    record { symmetric = k.0; diagonal = k.1; small = k.2; outside = k.3 }
 
 pub returns : goal.returns
 returns c =

@@ -2,9 +2,9 @@ use Rattle.std.proofs.Common.{lit≤}
 use Rattle.kinds.specs.Means.{market_means}
 use Rattle.kinds.proofs.market.charge.MarketCharge.greatest_width.Goals as goal
 
-pub greatest-width-requires : goal.greatest-width-requires
-greatest-width-requires c = (lit≤ tt, lit≤ tt, (tt, (tt, (tt, (tt, (tt, (tt, tt)))))))
+pub greatest_width-requires : goal.greatest_width-requires
+greatest_width-requires c = (lit≤ tt, lit≤ tt, (tt, (tt, (tt, (tt, (tt, (tt, tt)))))))
 
 pub returns : goal.returns
 unfolding market_means
-returns c = c.greatest-width.ensures
+returns c = c.greatest_width.ensures
