@@ -7,4 +7,4 @@ zeros f h (suc n) zero = h
 zeros f h (suc n) (suc i) = zeros f h n i
 
 pub invariant_of-result : goal.invariant_of-result
-invariant_of-result c = (refl, (search rules, (zeros (λ p. p.0) (omega arith) 28, (zeros (λ p. p.1) (omega arith) 28, tt))))
+invariant_of-result c = record { full = refl; few = search rules; lows = zeros (λ p. p.0) (omega arith) 28; highs = zeros (λ p. p.1) (omega arith) 28 }

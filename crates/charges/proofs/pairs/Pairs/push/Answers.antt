@@ -22,7 +22,7 @@ module _ (ps : List (ℕ × ℕ)) (low high : ℕ) where
 pub invariant_of-self : goal.invariant_of-self
 invariant_of-self c =
     let old = c.args.self.now in
-    (simp length-set old.full, (search rules, (set_below (λ p. p.0) 16777216 old.values old.len c.args.pair (omega arith) old.lows, (set_below (λ p. p.1) 16777216 old.values old.len c.args.pair (omega arith) old.highs, tt))))
+    record { full = simp length-set old.full; few = search rules; lows = set_below (λ p. p.0) 16777216 old.values old.len c.args.pair (omega arith) old.lows; highs = set_below (λ p. p.1) 16777216 old.values old.len c.args.pair (omega arith) old.highs }
 
 pub returns : goal.returns
 returns c =
