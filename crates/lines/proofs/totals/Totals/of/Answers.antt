@@ -56,13 +56,13 @@ pub invariant_of-result : goal.invariant_of-result
 invariant_of-result c =
     let ls = c.args.lines.now in
     let few : length ls ≤ 128 = omega arith in
-    let sums = adds_all ls c.loop-line.line-index c.loop-line-test.false c.loop-line.invariant in (
-      row_le weight (2 ^ 56) weight_small c.loop-line.firsts ls 128 sums.firsts few,
-      (
-        λ k. omega (arith, row_le (λ l. l.second) 4294967295 (λ l. (within l).second) c.loop-line.seconds ls 128 sums.seconds few k),
-        (row_le (λ _. 1) 1 (λ _. omega arith) c.loop-line.counts ls 128 sums.counts few, (plain_row c.loop-line.firsts ls sums.firsts few, tt)),
-      ),
-    )
+    let sums = adds_all ls c.loop-line.line-index c.loop-line-test.false c.loop-line.invariant in
+    record {
+      weighty = row_le weight (2 ^ 56) weight_small c.loop-line.firsts ls 128 sums.firsts few;
+      small = λ k. omega (arith, row_le (λ l. l.second) 4294967295 (λ l. (within l).second) c.loop-line.seconds ls 128 sums.seconds few k);
+      few = row_le (λ _. 1) 1 (λ _. omega arith) c.loop-line.counts ls 128 sums.counts few;
+      plainly = plain_row c.loop-line.firsts ls sums.firsts few;
+    }
 
 pub returns : goal.returns
 returns c =
