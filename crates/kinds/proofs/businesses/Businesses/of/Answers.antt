@@ -14,7 +14,7 @@ loop-i-preserved c = (
 )
 
 pub invariant_of-result : goal.invariant_of-result
-invariant_of-result c = (c.loop-i.invariant.0, tt)
+invariant_of-result c = record { full = c.loop-i.invariant.0 }
 
 pub returns : goal.returns
 returns c = λ ls tally. businesses_are 15 1 c.loop-i.volumes ls c.loop-i.invariant.0 (λ k h. c.loop-i.invariant.1 k (omega arith) ∙ tally.firsts 17 (k + 1) ∙ ap (λ d. total 17 d ls) (let e : k + 1 ≡ 1 + k = omega arith in e))
