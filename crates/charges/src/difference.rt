@@ -1,7 +1,7 @@
 ghost use Rattle.std.specs.Prelude.{◌≡◌};
 ghost use Rattle.charges.specs.Leaves.{difference as difference_of};
 ghost use Rattle.charges.specs.LeafTerms.{difference_terms};
-ghost use Rattle.std.proofs.Common.{rules};
+ghost use Rattle.std.proofs.Common.{refl};
 
 use super::charge::{Charge, TooLarge};
 
@@ -25,7 +25,7 @@ impl Charge for Difference {
 
     ghost terms = { λ c. difference_terms c.losses c.gains };
 
-    ghost alike = { Prim.search rules };
+    ghost alike = { λ a b. refl };
 
     fn bounds(&self) -> Result<(u32, u32), TooLarge> {
         let amount = self.losses.saturating_sub(self.gains);

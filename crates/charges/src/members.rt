@@ -1,8 +1,8 @@
-ghost use Rattle.std.specs.Prelude.{◌≡◌, ℕ, ◌+◌, ◌-◌, ◌^◌, ◌≤◌, min, List, [], ◌∷◌, length};
+ghost use Rattle.std.specs.Prelude.{◌≡◌, ℕ, suc, ◌+◌, ◌-◌, ◌^◌, ◌≤◌, min, List, [], ◌∷◌, length};
 ghost use Rattle.roots.specs.Form.{added};
 ghost use Rattle.charges.specs.Held.{held};
 ghost use Rattle.charges.specs.Meaning.{Meaning, AllTerms, Gathered, means, widths as widths_of};
-ghost use Rattle.std.proofs.Common.{rules};
+ghost use Rattle.std.proofs.Common.{refl, sym, ap, ap₂, one-add, ◌∙◌};
 
 use super::charge::Charge;
 use super::pairs::Pairs;
@@ -47,11 +47,11 @@ impl Members for () {
 
     ghost proper = { Unit {0} };
 
-    ghost counted = { Prim.search rules };
+    ghost counted = { λ m. refl };
 
-    ghost terms = { Prim.search rules };
+    ghost terms = { λ m. tt };
 
-    ghost alike = { Prim.search rules };
+    ghost alike = { λ a b. refl };
 
     fn gather(&self, _pairs: &mut Pairs) -> Result<(), usize> {
         Ok(())
@@ -73,11 +73,11 @@ impl<C: Charge, R: Members> Members for (C, R) {
 
     ghost proper = { C.Charge.proper × R.Members.proper };
 
-    ghost counted = { Prim.search rules };
+    ghost counted = { λ m. ap suc (R.Members.counted m.1) ∙ sym (one-add R.Members.count) };
 
     ghost terms = { λ m. (C.Charge.terms m.0, R.Members.terms m.1) };
 
-    ghost alike = { Prim.search rules };
+    ghost alike = { λ a b. ap₂ (λ w ws. w ∷ ws) (C.Charge.alike a.0 b.0) (R.Members.alike a.1 b.1) };
 
     fn gather(&self, pairs: &mut Pairs) -> Result<(), usize> {
         let Ok(pair) = self.0.bounds() else {

@@ -1,7 +1,7 @@
 ghost use Rattle.std.specs.Prelude.{◌≡◌};
 ghost use Rattle.charges.specs.Leaves.{square_root};
 ghost use Rattle.charges.specs.LeafTerms.{square_root_terms};
-ghost use Rattle.std.proofs.Common.{rules};
+ghost use Rattle.std.proofs.Common.{refl};
 
 use super::charge::{Charge, TooLarge};
 use roots::roots;
@@ -26,7 +26,7 @@ impl Charge for RootOfSquares {
 
     ghost terms = { λ c. square_root_terms c.total };
 
-    ghost alike = { Prim.search rules };
+    ghost alike = { λ a b. refl };
 
     fn bounds(&self) -> Result<(u32, u32), TooLarge> {
         if self.total > MOST {

@@ -1,10 +1,10 @@
 //! Combines amounts under a correlation table: two lines of numbers in, the low and the high of the root out.
 #![tactic(auto)]
 
-use anyhow::anyhow;
 use combination::respond;
 use std::env;
 use std::io::Read;
+use std::process::ExitCode;
 
 const USAGE: &str = "usage: combine < INPUT
 Combines amounts under a correlation table, and prints the low and the high of the root.
@@ -43,10 +43,10 @@ fn run(rt: &HostRuntime) -> anyhow::Result<bool> {
     Ok(false)
 }
 
-fn main(rt: HostRuntime) -> anyhow::Result<()> {
+fn main(rt: HostRuntime) -> anyhow::Result<ExitCode> {
     if run(&rt)? {
-        Ok(())
+        Ok(ExitCode::SUCCESS)
     } else {
-        Err(anyhow!("refused"))
+        Ok(ExitCode::FAILURE)
     }
 }

@@ -4,12 +4,12 @@
 mod book;
 mod qis3;
 
-use anyhow::anyhow;
 use book::BOOK;
 use kinds::figures;
 use lines::{Fields, Line, Totals};
 use qis3::tables;
 use std::env;
+use std::process::ExitCode;
 
 const USAGE: &str = "usage: company
 Prints the 28 figures of a company under the tables of QIS3, one a line: number, low, high.
@@ -71,10 +71,10 @@ fn run(rt: &HostRuntime) -> anyhow::Result<bool> {
     Ok(false)
 }
 
-fn main(rt: HostRuntime) -> anyhow::Result<()> {
+fn main(rt: HostRuntime) -> anyhow::Result<ExitCode> {
     if run(&rt)? {
-        Ok(())
+        Ok(ExitCode::SUCCESS)
     } else {
-        Err(anyhow!("refused"))
+        Ok(ExitCode::FAILURE)
     }
 }

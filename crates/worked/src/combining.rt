@@ -1,12 +1,19 @@
 // Texts, with what the program prints of them.
 use combination::respond;
-use std::test::*;
+use std::alloc::Global;
+use std::process::Abort;
+use std::test::Fail;
 
-fn replies(rt: HostRuntime, cases: &[(&str, &str)], accepted: bool) -> Result<(), Fail> {
+fn replies(
+    rt: &impl Abort,
+    alloc: Global,
+    cases: &[(&str, &str)],
+    accepted: bool,
+) -> Result<(), Fail> {
     for case in cases {
-        let reply = respond(rt.alloc(), case.0.as_bytes())?;
-        assert_eq!(reply.text.as_str(), case.1);
-        assert_eq!(reply.accepted, accepted);
+        let reply = respond(alloc, case.0.as_bytes())?;
+        assert_eq!(rt; reply.text.as_str(), case.1);
+        assert_eq!(rt; reply.accepted, accepted);
     }
     Ok(())
 }
@@ -25,7 +32,7 @@ fn combined(rt: HostRuntime) -> Result<(), Fail> {
         ("0 0\n0", "members 2\nform 0\nlow 0\nhigh 0\n"),
         ("1 2 3\n10 20 30", "members 3\nform 1920\nlow 4\nhigh 5\n"),
     ];
-    replies(rt, &cases, true)
+    replies(&rt, rt.alloc(), &cases, true)
 }
 
 #[test]
@@ -54,7 +61,7 @@ fn refused(rt: HostRuntime) -> Result<(), Fail> {
         ("3 4 5\n0 1.5 0\n", "line 2, word 2: not a whole number\n"),
         ("3 4\n25\n\n7\n", "line 3: text behind the two lines\n"),
     ];
-    replies(rt, &cases, false)
+    replies(&rt, rt.alloc(), &cases, false)
 }
 
 #[test]

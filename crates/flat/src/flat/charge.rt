@@ -1,7 +1,7 @@
 ghost use Rattle.std.specs.Prelude.{◌≡◌};
 ghost use Rattle.flat.specs.Flats.{flat};
 ghost use Rattle.flat.specs.FlatTerms.{flat_terms};
-ghost use Rattle.std.proofs.Common.{rules, arith};
+ghost use Rattle.std.proofs.Common.{refl};
 
 use super::Flat;
 use charges::{Charge, TooLarge};
@@ -17,7 +17,7 @@ impl Charge for Flat {
 
     ghost terms = { λ c. flat_terms c.low c.high c.ordered c.close };
 
-    ghost alike = { first_of (Prim.search rules, Prim.grind (arith, Self.row.coded.inj)) };
+    ghost alike = { λ a b. refl };
 
     fn bounds(&self) -> Result<(u32, u32), TooLarge> {
         if self.high > LIMIT {
