@@ -14,3 +14,7 @@ given c = (c.low, c.high)
 -- a charge has a high from its low to 50 above it
 abbrev pub made : ℕ → ℕ → Option (ℕ × ℕ)
 made low high = cond (nat_le low high && nat_le high (low + 50)) (Some (low, high)) None
+
+-- of the value in the code
+abbrev pub flatly : Flat → Meaning
+flatly c = flat c.low c.high

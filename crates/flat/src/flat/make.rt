@@ -16,4 +16,14 @@ impl Flat {
         }
         Some(Flat { low, high })
     }
+
+    /// The same low and high.
+    pub fn exactly(amount: u32) -> Flat
+        ensures { given result ≡ (amount, amount) }
+    {
+        Flat {
+            low: amount,
+            high: amount,
+        }
+    }
 }

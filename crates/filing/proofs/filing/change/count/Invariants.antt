@@ -1,6 +1,6 @@
 use Rattle.std.proofs.Common.{◌≡◌, ◌≤◌, take}
 use Rattle.lines.specs.Held.{plain}
-use Rattle.totals.specs.Totals.{kind_count}
+use Rattle.lines.specs.Totals.{kind_count}
 use Rattle.filing.proofs.filing.change.count.Given as goal
 
 abbrev pub invariant-loop-line : goal.invariant-loop-line

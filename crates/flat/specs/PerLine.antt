@@ -3,7 +3,7 @@ use Rattle.std.specs.Prelude.{ℕ, List, [], ◌∷◌}
 use Rattle.roots.specs.Form.{sum}
 use Rattle.charges.specs.Meaning.{Meaning}
 use Rattle.lines.specs.declared.fields.Fields.{Fields}
-use Rattle.totals.specs.Totals.{standing}
+use Rattle.lines.specs.Totals.{standing}
 use Rattle.choice.specs.Basis.{Basis, Chosen}
 use Rattle.flat.specs.Flats.{flat}
 

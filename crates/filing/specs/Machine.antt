@@ -4,7 +4,7 @@ use Rattle.std.specs.Prelude.{ℕ, ◌+◌, ◌-◌, Bool, cond, ◌&&◌, ◌||
 use Rattle.std.specs.List.{remove}
 use Rattle.lines.specs.declared.fields.Fields.{Fields}
 use Rattle.lines.specs.Judged.{judged}
-use Rattle.totals.specs.Totals.{kind_count}
+use Rattle.lines.specs.Totals.{kind_count}
 use Rattle.lines.specs.Weights.{square}
 use Rattle.tables.specs.Replacing as tables
 use Rattle.tables.specs.Standing.{uncorrelated}

@@ -1,6 +1,6 @@
 use Rattle.std.proofs.Common.{◌≡◌, ℕ, ◌+◌, ◌*◌, ◌∙◌, arith}
-use Rattle.formula.specs.declared.beside.Beside.{Beside}
-use Rattle.totals.specs.Totals.{total}
+use Rattle.charges.specs.declared.beside.Beside.{Beside}
+use Rattle.lines.specs.Totals.{total}
 use Rattle.choice.specs.Beside.{percentages}
 use Rattle.choice.proofs.beside.beside.Goals as goal
 

@@ -7,6 +7,6 @@ use Rattle.flat.proofs.choice.PerLineChoice.basic.Goals as goal
 
 pub returns : goal.returns
 returns c = λ tally.
-    let ls = plain c.args.-lines.now in
+    let ls = plain c.args._lines.now in
     let same : flatly c.exactly-fixed.result ≡ fixed = ap (λ (p : ℕ × ℕ). flat p.0 p.1) c.exactly-fixed.ensures in
     cons _ _ _ _ (same) (cons _ _ _ _ (c.standing.ensures ls tally) (cons _ _ _ _ (same) (cons _ _ _ _ (same) (cons _ _ _ _ (same) refl))))

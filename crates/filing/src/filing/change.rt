@@ -1,6 +1,6 @@
 ghost use Rattle.std.specs.Prelude.{◌≡◌};
 ghost use Rattle.lines.specs.Held.{plain};
-ghost use Rattle.totals.specs.Totals.{kind_count};
+ghost use Rattle.lines.specs.Totals.{kind_count};
 ghost use Rattle.lines.specs.Weights.{square};
 ghost use Rattle.tables.specs.Replacing.{answer, refusal as replace_refusal};
 ghost use Rattle.filing.specs.Machine.{full, enter_refusal, entered, strike_refusal, struck, replaced};

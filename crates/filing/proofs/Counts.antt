@@ -8,7 +8,7 @@ use Rattle.std.specs.List.{remove}
 use Rattle.lines.specs.declared.fields.Fields.{Fields}
 use Rattle.lines.specs.declared.line.Line.{Line}
 use Rattle.lines.specs.Held.{plain}
-use Rattle.totals.specs.Totals.{kind_count}
+use Rattle.lines.specs.Totals.{kind_count}
 
 -- 1 for a line of the kind
 abbrev pub one : ℕ → Fields → ℕ

@@ -6,11 +6,11 @@ use Rattle.tables.specs.Standing.{entries}
 use Rattle.tables.proofs.Replaced.{sizes_kept, refuses, accepts, stands, stays}
 use Rattle.tables.proofs.tables.Tables.replace.Goals as goal
 
-pub invariant-of-self : goal.invariant-of-self
-invariant-of-self c =
+pub invariant_of-self : goal.invariant_of-self
+invariant_of-self c =
     let found = c.in-Some.ensures in
     let place : c.in-Some.found.0 ≡ c.args.table - 1 = omega arith in
-    (sizes_kept c.args.self.now c.in-Some.found.0 c.in-Ok.new (c.in-Ok.ensures.1 ∙ found.3 ∙ ap (λ i. get_or sizes i 0) (sym place)), tt)
+    record { sized = sizes_kept c.args.self.now c.in-Some.found.0 c.in-Ok.new (c.in-Ok.ensures.1 ∙ found.3 ∙ ap (λ i. get_or sizes i 0) (sym place)) }
 
 pub returns-in-Ok : goal.returns-in-Ok
 returns-in-Ok c =
@@ -26,6 +26,6 @@ returns-in-Err c =
     let found = c.in-Some.ensures in
     let refusal = refuses c.args.table _ c.args.given.now found.2 c.in-Err.fault c.in-Err.ensures in
     record {
-      answer = ap (λ e. Err (shown e)) c.entries-fault.ensures ∙ sym (ap answer refusal);
+      answer = ap (λ e. Err (shown e)) c.entries_fault.ensures ∙ sym (ap answer refusal);
       after = stays (entries c.args.self.now) c.args.table c.args.given.now _ refusal;
     }

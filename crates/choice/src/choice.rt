@@ -1,13 +1,12 @@
 ghost use Rattle.std.specs.Prelude.{◌≡◌, ◌+◌, ◌++◌};
 ghost use Rattle.charges.specs.Meaning.{widths};
 ghost use Rattle.lines.specs.Held.{plain};
-ghost use Rattle.totals.specs.Tally.{Tally};
+ghost use Rattle.lines.specs.Tally.{Tally};
 ghost use Rattle.choice.specs.Basis.{Basis, Chosen, basis, shown as shown_of};
 
-use lines::Line;
-use modules::Members;
+use charges::Members;
+use lines::{Line, Totals};
 use tables::Tables;
-use totals::Totals;
 
 /// A choice of charges for figures 1 to 23, made from lines, their totals, and tables.
 pub trait Choice {

@@ -1,7 +1,7 @@
 use Rattle.std.proofs.Common.{◌≡◌, ℕ, ◌-◌, ◌<◌, ◌≤◌, ◌⊎◌, length, Ok, Err, vec_items, sym, ap, ◌∙◌, inl, inr, arith, rules}
 use Rattle.std.specs.List.{remove}
 use Rattle.lines.specs.Held.{plain}
-use Rattle.totals.specs.Totals.{kind_count}
+use Rattle.lines.specs.Totals.{kind_count}
 use Rattle.tables.specs.Replacing.{answer}
 use Rattle.filing.specs.Machine.{with_lines, strike_refusal, struck}
 use Rattle.filing.specs.Stands.{stands}
@@ -22,14 +22,23 @@ returns-then-number-eq0 c =
     let refusal = strike_none st number wrong in
     record { answer = sym (ap answer refusal); after = stays (strike_refusal st number) st (with_lines st (remove st.lines (number - 1))) _ refusal }
 
-pub invariant-of-self : goal.invariant-of-self
-invariant-of-self c =
+pub invariant_of-self : goal.invariant_of-self
+invariant_of-self c =
     let f = c.args.self.now in
     let ls = vec_items f.lines in
     let items = c.remove.ensures.items in
     let fewer : (kind : ℕ) → kind_count kind (plain (vec_items c.remove.new.self)) ≤ kind_count kind (plain ls) =
     λ kind. omega (arith, ap (λ l. kind_count kind (plain l)) items, count_removed kind ls (c.args.number - 1)) in
-    (f.earliest, (f.latest, (f.first, (f.last, (search rules, (search rules, (omega (arith, fewer 5, f.concentrations), (omega (arith, fewer 18, f.catastrophes), tt))))))))
+    record {
+      earliest = f.earliest;
+      latest = f.latest;
+      first = f.first;
+      last = f.last;
+      few = search rules;
+      reserved = search rules;
+      concentrations = omega (arith, fewer 5, f.concentrations);
+      catastrophes = omega (arith, fewer 18, f.catastrophes);
+    }
 
 pub returns : goal.returns
 returns c =

@@ -1,6 +1,6 @@
 ghost use Rattle.std.specs.Prelude.{◌≤◌, vec_len, vec_capacity};
 ghost use Rattle.lines.specs.Held.{plain};
-ghost use Rattle.totals.specs.Totals.{kind_count};
+ghost use Rattle.lines.specs.Totals.{kind_count};
 
 use lines::Line;
 use tables::Tables;

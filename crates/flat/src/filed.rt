@@ -1,9 +1,10 @@
 // A filing worked out by a choice of flat charges; the figures expected were worked apart from it.
-use super::{PerLine, PerLineChoice};
+use super::PerLine;
 use filing::Filing;
 use lines::Fields;
 use std::process::Abort;
 use std::test::Fail;
+use working::WorkOut;
 
 fn enter(filing: &mut Filing, kind: u8, rate: u16) -> Result<(), Fail> {
     filing.enter(Fields {

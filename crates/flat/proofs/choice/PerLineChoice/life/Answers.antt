@@ -5,5 +5,5 @@ use Rattle.flat.proofs.choice.PerLineChoice.life.Goals as goal
 
 pub returns : goal.returns
 returns c = λ tally.
-    let ls = plain c.args.-lines.now in
+    let ls = plain c.args._lines.now in
     cons _ _ _ _ (c.standing-6.ensures ls tally) (cons _ _ _ _ (c.standing-7.ensures ls tally) (cons _ _ _ _ (c.standing-5.ensures ls tally) (cons _ _ _ _ (c.standing-3.ensures ls tally) (cons _ _ _ _ (c.standing-4.ensures ls tally) (cons _ _ _ _ (c.standing.ensures ls tally) (cons _ _ _ _ (c.standing-2.ensures ls tally) refl))))))

@@ -1,6 +1,6 @@
 ghost use Rattle.std.specs.Prelude.{◌≡◌};
 ghost use Rattle.lines.specs.Held.{plain};
-ghost use Rattle.totals.specs.Tally.{Tally};
+ghost use Rattle.lines.specs.Tally.{Tally};
 ghost use Rattle.tables.specs.Replacing.{answer};
 ghost use Rattle.filing.specs.Machine.{Standing};
 ghost use Rattle.filing.specs.Stands.{stands, told};
@@ -9,7 +9,7 @@ ghost use Rattle.working.specs.Figures.{work_out_refusal, Worked, OneWorked, num
 use super::figure::Figure;
 use choice::{Choice, figures_by};
 use filing::{Filing, FilingFault};
-use totals::Totals;
+use lines::Totals;
 
 /// What has figures to be worked out.
 pub trait WorkOut {

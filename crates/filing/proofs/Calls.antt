@@ -9,7 +9,7 @@ use Rattle.lines.specs.declared.line.Line.{Line}
 use Rattle.lines.specs.Held.{plain}
 use Rattle.lines.specs.Judged.{judged, refused_at}
 use Rattle.lines.specs.Rules.{wrong}
-use Rattle.totals.specs.Totals.{kind_count}
+use Rattle.lines.specs.Totals.{kind_count}
 use Rattle.lines.specs.Weights.{square}
 use Rattle.tables.specs.Replacing.{answer, after}
 use Rattle.filing.specs.declared.filing.Filing.{Filing}

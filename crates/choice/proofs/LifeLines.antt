@@ -4,9 +4,9 @@ use Rattle.std.proofs.lemmas.Bool.Decides.{nat_tests}
 use Rattle.roots.specs.Form.{sum}
 use Rattle.roots.proofs.Sums.{sum_eq}
 use Rattle.lines.specs.declared.fields.Fields.{Fields}
-use Rattle.totals.specs.declared.totals.Totals.{Totals}
-use Rattle.totals.specs.Tally.{Tally, count_of}
-use Rattle.totals.specs.Totals.{standing}
+use Rattle.lines.specs.declared.totals.Totals.{Totals}
+use Rattle.lines.specs.Tally.{Tally, count_of}
+use Rattle.lines.specs.Totals.{standing}
 use Rattle.choice.specs.Beside.{life_lines}
 
 -- numbers of the kinds 7 to 13, added

@@ -1,9 +1,9 @@
 -- The 28 figures by a choice of charges, on lines and tables. Assumes nothing.
 use Rattle.std.specs.Prelude.{ℕ, List, Result}
-use Rattle.formula.specs.declared.figures.TooLargeAt.{TooLargeAt}
-use Rattle.formula.specs.Formula.{limited, figures}
+use Rattle.charges.specs.declared.figures.TooLargeAt.{TooLargeAt}
+use Rattle.charges.specs.Formula.{limited, figures}
 use Rattle.charges.specs.Meaning.{Meaning}
-use Rattle.formula.specs.Worked.{WorkedOut, Answered}
+use Rattle.charges.specs.Worked.{WorkedOut, Answered}
 use Rattle.tables.specs.Standing.{table}
 use Rattle.choice.specs.Basis.{Basis, Chosen, shown}
 use Rattle.choice.specs.Beside.{beside}

@@ -1,15 +1,14 @@
 ghost use Rattle.std.specs.Prelude.{◌≡◌};
 ghost use Rattle.lines.specs.Held.{plain};
-ghost use Rattle.totals.specs.Tally.{Tally};
+ghost use Rattle.lines.specs.Tally.{Tally};
 ghost use Rattle.choice.specs.Basis.{basis};
 ghost use Rattle.choice.specs.Figured.{Figured};
 
 use super::beside::beside;
 use super::choice::Choice;
-use formula::{Charges, TooLargeAt, work_out};
-use lines::Line;
+use charges::{Charges, TooLargeAt, work_out};
+use lines::{Line, Totals};
 use tables::{Tables, Which};
-use totals::Totals;
 
 /// The 28 figures of lines, their totals and tables into the place, or the lowest that is too large,
 /// and the place as before.

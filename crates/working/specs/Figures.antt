@@ -2,7 +2,7 @@
 use Rattle.std.specs.Prelude.{◌≡◌, ℕ, cond, ◌&&◌, List, Some, None, Ok, Err, Option, Result, nat_le}
 use Rattle.std.specs.Option.{option_map}
 use Rattle.charges.specs.Meaning.{first_large}
-use Rattle.formula.specs.Worked.{figure, Between}
+use Rattle.charges.specs.Worked.{figure, Between}
 use Rattle.choice.specs.Basis.{Basis, Chosen}
 use Rattle.choice.specs.Figured.{all_figures, all_limited, AllWorked}
 use Rattle.filing.specs.declared.fault.FilingFault.{FilingFault}

@@ -1,16 +1,15 @@
 ghost use Rattle.std.specs.Prelude.{◌≡◌, List};
 ghost use Rattle.lines.specs.declared.fields.Fields.{Fields as Given};
 ghost use Rattle.lines.specs.Kinds.{number};
-ghost use Rattle.totals.specs.Tally.{Tally};
+ghost use Rattle.lines.specs.Tally.{Tally};
 ghost use Rattle.flat.specs.Flats.{flatly};
 ghost use Rattle.flat.specs.PerLine.{per_line, lines_of};
-ghost use Rattle.std.proofs.Common.{rules};
+ghost use Rattle.std.proofs.Common.{refl};
 
 use super::flat::Flat;
 use choice::Choice;
-use lines::{Kind, Line};
+use lines::{Kind, Line, Totals};
 use tables::Tables;
-use totals::Totals;
 
 /// Two flat charges.
 pub type Two = (Flat, (Flat, ()));
@@ -51,13 +50,13 @@ impl Choice for PerLine {
 
     ghost meaning = { per_line };
 
-    ghost shown = { Prim.search rules };
+    ghost shown = { refl };
 
-    ghost five = { Prim.search rules };
+    ghost five = { refl };
 
-    ghost proper = { Prim.search rules };
+    ghost proper = { ((tt, (tt, (tt, (tt, (tt, (tt, tt)))))), (tt, (tt, (tt, (tt, (tt, (tt, (tt, tt))))))), (tt, (tt, (tt, tt))), (tt, (tt, tt)), (tt, (tt, (tt, (tt, (tt, tt)))))) };
 
-    ghost alike = { Prim.search rules };
+    ghost alike = { λ b c. refl };
 
     fn market(_lines: &[Line], totals: &Totals, _tables: &Tables) -> Six {
         let last = (

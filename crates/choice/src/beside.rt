@@ -1,11 +1,10 @@
 ghost use Rattle.std.specs.Prelude.{◌≡◌, ◌+◌, ◌*◌, ◌^◌, ◌≤◌, List};
 ghost use Rattle.lines.specs.declared.fields.Fields.{Fields as Given};
-ghost use Rattle.totals.specs.Tally.{Tally};
+ghost use Rattle.lines.specs.Tally.{Tally};
 ghost use Rattle.choice.specs.Beside.{least_capital, beside as beside_of};
 
-use formula::Beside;
-use lines::Kind;
-use totals::Totals;
+use charges::Beside;
+use lines::{Kind, Totals};
 
 // The least capital of an insurer without life lines, and of one with them, in units.
 const WITHOUT_LIFE: u32 = 10_000;

@@ -1,9 +1,9 @@
 -- What the formula takes from the lines beside its charges. Assumes nothing.
 use Rattle.std.specs.Prelude.{ℕ, ◌+◌, ◌*◌, cond, List, ◌==◌}
 use Rattle.roots.specs.Form.{sum}
-use Rattle.formula.specs.declared.beside.Beside.{Beside}
+use Rattle.charges.specs.declared.beside.Beside.{Beside}
 use Rattle.lines.specs.declared.fields.Fields.{Fields}
-use Rattle.totals.specs.Totals.{total, standing}
+use Rattle.lines.specs.Totals.{total, standing}
 
 -- the earned premiums or the provisions of life, non-life and health from a class on: 3% and twice 2%
 abbrev pub percentages : ℕ → List Fields → ℕ

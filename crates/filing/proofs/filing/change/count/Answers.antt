@@ -2,7 +2,7 @@ use Rattle.std.proofs.Common.{◌≡◌, sym, ap, ◌∙◌, arith}
 use Rattle.std.proofs.lemmas.List.{take_all}
 use Rattle.lines.specs.declared.fields.Fields.{Fields}
 use Rattle.lines.specs.Held.{plain}
-use Rattle.totals.specs.Totals.{kind_count}
+use Rattle.lines.specs.Totals.{kind_count}
 use Rattle.filing.proofs.Counts.{count_yes, count_no}
 use Rattle.filing.proofs.filing.change.count.Goals as goal
 use Rattle.filing.proofs.filing.change.count.Goals.{then-fields-kind, else-fields-kind}
