@@ -2,12 +2,12 @@
 //! choice, of which the formula and the filing know nothing.
 #![tactic(auto)]
 
-mod choice;
 #[cfg(test)]
 mod filed;
 mod flat;
+mod per_line;
 #[cfg(test)]
 mod through;
 
-pub use choice::{Five, PerLine, Seven, Six, Three, Two};
 pub use flat::Flat;
+pub use per_line::{Five, PerLine, Seven, Six, Three, Two};

@@ -2,9 +2,13 @@
 #![tactic(auto)]
 
 #[cfg(test)]
+mod businesses;
+#[cfg(test)]
 mod combining;
 #[cfg(test)]
 mod figuring;
+#[cfg(test)]
+mod filed;
 #[cfg(test)]
 mod judging;
 #[cfg(test)]

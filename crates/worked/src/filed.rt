@@ -1,9 +1,10 @@
 // Filings, and their figures by our charges, which were worked apart from them.
-use filing::{Figure, Filing, FilingFault};
-use kinds::Ours;
+use filing::{Filing, FilingFault};
 use lines::Fields;
+use ours::Ours;
 use std::process::Abort;
-use std::test::*;
+use std::test::Fail;
+use working::{Figure, WorkOut};
 
 type Shown = (u8, usize, usize);
 

@@ -1,7 +1,7 @@
 use Rattle.std.proofs.Common.{◌≡◌, refl, ap}
 use Rattle.lines.specs.Held.{plain}
 use Rattle.choice.proofs.Same.{cons}
-use Rattle.flat.proofs.choice.PerLineChoice.health.Goals as goal
+use Rattle.flat.proofs.per_line.PerLineChoice.health.Goals as goal
 
 pub returns : goal.returns
 returns c = λ tally.

@@ -5,13 +5,14 @@
 mod book;
 mod qis3;
 
-use anyhow::anyhow;
 use book::{BOOK, STRUCK, TOO_LONG};
 use filing::{Filing, FilingFault, OpenFault};
-use kinds::Ours;
 use lines::Fields;
+use ours::Ours;
 use qis3::entries;
+use std::process::ExitCode;
 use std::{env, io};
+use working::WorkOut;
 
 const USAGE: &str = "usage: trial
 Files a trial quarter and prints each step, then the 28 figures, one a line: number, low, high.
@@ -110,10 +111,10 @@ fn run(rt: &HostRuntime) -> anyhow::Result<bool> {
     Ok(false)
 }
 
-fn main(rt: HostRuntime) -> anyhow::Result<()> {
+fn main(rt: HostRuntime) -> anyhow::Result<ExitCode> {
     if run(&rt)? {
-        Ok(())
+        Ok(ExitCode::SUCCESS)
     } else {
-        Err(anyhow!("refused"))
+        Ok(ExitCode::FAILURE)
     }
 }

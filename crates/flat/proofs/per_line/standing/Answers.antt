@@ -2,7 +2,7 @@ use Rattle.std.proofs.Common.{◌≡◌, ℕ, sym, ap, ◌∙◌}
 use Rattle.roots.proofs.Sums.{sum_eq}
 use Rattle.lines.specs.Kinds.{number}
 use Rattle.flat.specs.Flats.{flat}
-use Rattle.flat.proofs.choice.standing.Goals as goal
+use Rattle.flat.proofs.per_line.standing.Goals as goal
 
 pub returns : goal.returns
 returns c = λ ls tally.

@@ -1,8 +1,9 @@
 // Lines of business under tables from outside: the shares of a total among eight of them, in percent.
-use filing::{Figure, Filing};
-use kinds::Ours;
+use filing::Filing;
 use lines::Fields;
-use std::test::*;
+use ours::Ours;
+use std::test::Fail;
+use working::{Figure, WorkOut};
 
 // These entries from a place on, if they fit.
 fn put(all: &mut [u8], from: usize, row: &[u8]) {

@@ -3,7 +3,7 @@ use Rattle.flat.specs.Flats.{flat, flatly}
 use Rattle.flat.specs.PerLine.{fixed}
 use Rattle.lines.specs.Held.{plain}
 use Rattle.choice.proofs.Same.{cons}
-use Rattle.flat.proofs.choice.PerLineChoice.basic.Goals as goal
+use Rattle.flat.proofs.per_line.PerLineChoice.basic.Goals as goal
 
 pub returns : goal.returns
 returns c = λ tally.

@@ -1,0 +1,46 @@
+-- Our charges of figures 1 to 23 on what stands: lines, and tables by their numbers. Assumes nothing.
+use Rattle.std.specs.Prelude.{ℕ, List, [], ◌∷◌}
+use Rattle.roots.specs.Held.{correlation}
+use Rattle.charges.specs.Meaning.{Meaning, module_of}
+use Rattle.tables.specs.Standing.{table}
+use Rattle.choice.specs.Basis.{Basis, Chosen}
+use Rattle.kinds.specs.declared.tables.Tables.{Tables}
+use Rattle.kinds.specs.Exact.{exactly, interest, global_equity, other_equity, property, spread, currency, life, volume, root_of_squares}
+use Rattle.kinds.specs.Ours.{all_businesses}
+
+-- the seven tables in the order of their numbers
+abbrev pub in_order : Tables → List (ℕ → ℕ → ℕ)
+in_order ts =
+    correlation ts.basic ∷ correlation ts.market ∷ correlation ts.equity ∷ correlation ts.life ∷
+    correlation ts.health ∷ correlation ts.non_life ∷ correlation ts.business ∷ []
+
+module _ (b : Basis) where
+  abbrev pub equity : Meaning
+  equity = module_of (table b.tables 3) (exactly 1 global_equity b.lines ∷ exactly 1 other_equity b.lines ∷ [])
+
+  abbrev pub premium_reserve : Meaning
+  premium_reserve = module_of (table b.tables 7) (all_businesses b.lines)
+
+  -- figures 1 to 6
+  abbrev pub market : List Meaning
+  market = exactly 0 interest b.lines ∷ equity ∷ exactly 1 property b.lines ∷ exactly 1 spread b.lines ∷ root_of_squares 5 b.lines ∷ exactly 1 currency b.lines ∷ []
+
+  -- figures 7 to 13
+  abbrev pub lives : List Meaning
+  lives = exactly 0 (life 7) b.lines ∷ exactly 0 (life 8) b.lines ∷ exactly 0 (life 9) b.lines ∷ exactly 0 (life 10) b.lines ∷ exactly 0 (life 11) b.lines ∷ exactly 0 (life 12) b.lines ∷ exactly 0 (life 13) b.lines ∷ []
+
+  -- figures 14 to 16
+  abbrev pub health : List Meaning
+  health = exactly 1 (volume 14) b.lines ∷ exactly 1 (volume 15) b.lines ∷ exactly 1 (volume 16) b.lines ∷ []
+
+  -- figures 17 and 18
+  abbrev pub non_life : List Meaning
+  non_life = premium_reserve ∷ root_of_squares 18 b.lines ∷ []
+
+  -- figures 19 to 23
+  abbrev pub basic_members : List Meaning
+  basic_members = module_of (table b.tables 2) market ∷ exactly 1 (volume 20) b.lines ∷ module_of (table b.tables 4) lives ∷ module_of (table b.tables 5) health ∷ module_of (table b.tables 6) non_life ∷ []
+
+-- our choice
+abbrev pub ours : Chosen
+ours = record { market = market; life = lives; health = health; non_life = non_life; basic = basic_members }
