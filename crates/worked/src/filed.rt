@@ -62,7 +62,7 @@ fn empty(rt: HostRuntime) -> Result<(), Fail> {
 }
 
 #[test]
-fn largest_property(rt: HostRuntime) -> Result<(), Fail> {
+fn property_at_the_limit(rt: HostRuntime) -> Result<(), Fail> {
     let mut filing = opened(&rt)?;
     assert_eq!(rt; enter(&mut filing, 3, 0, 0, 83_886_075), DONE);
     assert_eq!(rt; figure(&filing, 3)?, (16_777_215, 16_777_215));
