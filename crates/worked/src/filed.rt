@@ -1,7 +1,7 @@
 // Filings, and their figures by our charges, which were worked apart from them.
 use filing::{Filing, FilingFault};
-use lines::Fields;
-use ours::Ours;
+use lines::{Fields, Totals};
+use ours::{Ours, figures};
 use std::process::Abort;
 use std::test::Fail;
 use working::{Figure, WorkOut};
@@ -71,6 +71,20 @@ fn property_at_the_limit(rt: HostRuntime) -> Result<(), Fail> {
     assert_eq!(rt; told(filing.strike(1)), DONE);
     assert_eq!(rt; enter(&mut filing, 3, 0, 0, 83_886_076), DONE);
     refused(&rt, &filing, (10, 3, 0))
+}
+
+#[test]
+fn by_totals(rt: HostRuntime) -> Result<(), Fail> {
+    let mut filing = opened(&rt)?;
+    assert_eq!(rt; enter(&mut filing, 3, 0, 0, 83_886_075), DONE);
+    let Some(totals) = Totals::of(filing.lines()) else {
+        return Err(Fail::new("too many lines"));
+    };
+    let mut place = [(1, 2); 28];
+    assert!(rt; figures(filing.lines(), &totals, filing.tables(), &mut place).is_ok());
+    assert_eq!(rt; place[23], (16_777_215, 16_777_215));
+    assert_eq!(rt; place[26], (5_592_405, 5_592_405));
+    Ok(())
 }
 
 #[test]
