@@ -1,22 +1,26 @@
 -- Charges asked one after the other, and their bounds held. Assumes nothing.
-use Rattle.std.proofs.Common.{◌≡◌, ℕ, suc, ◌+◌, ◌<◌, ◌≤◌, Bool, true, false, cond, ◌||◌, ltb, leb, List, [], ◌∷◌, ◌++◌, length, Some, None, Option, sym, refl, ap, ◌∙◌, append_assoc, arith}
+use Rattle.std.proofs.Common.{◌≡◌, ℕ, suc, ◌+◌, ◌<◌, ◌≤◌, Bool, true, false, cond, ◌||◌, ltb, leb, List, [], ◌∷◌, ◌++◌, length, is_ok, Some, None, Ok, Err, Option, Result, sym, refl, ap, ◌∙◌, append_assoc, arith}
 use Rattle.std.proofs.lemmas.List.{length_push}
 use Rattle.std.proofs.lemmas.Bool.{or_parts, or_left, or_right, or_from, ltb-false, le-ltb, lt-ltb}
 use Rattle.std.proofs.lemmas.Bool.Decides.{nat_tests}
 use Rattle.std.specs.Option.{option_map}
 use Rattle.charges.specs.declared.pairs.Side.TheVariants.{Low, High}
-use Rattle.charges.specs.Held.{fits, sides}
-use Rattle.charges.specs.Meaning.{Meaning, Terms, large, some_passes, downs, ups, depths, bounds, all_bounds, first_large, module_of}
+use Rattle.charges.specs.declared.pairs.PairFault.{PairFault}
+use Rattle.charges.specs.Held.{pair_fault, sides}
+use Rattle.roots.specs.Answers.{told}
+use Rattle.roots.proofs.Firsts.{found_within}
+use Rattle.charges.specs.declared.charge.TooLargeAt.{TooLargeAt}
+use Rattle.charges.specs.Meaning.{Meaning, Terms, Gathered, large, some_passes, downs, ups, depths, bounds, all_bounds, first_large, module_of}
 use Rattle.charges.specs.Quotients.{passes}
 use Rattle.charges.specs.Modules.{none_passes, some_large_passes}
 
-fits_small : (ps : List (ℕ × ℕ)) (low high : ℕ) → length ps < 27 → low ≤ 16777215 → high ≤ 16777215 → fits ps (low, high) ≡ true
-fits_small ps low high a b c = grind (arith, nat_tests)
+no_fault : (ps : List (ℕ × ℕ)) (low high : ℕ) → length ps < 27 → low ≤ 16777215 → high ≤ 16777215 → pair_fault ps (low, high) ≡ None
+no_fault ps low high a b c = grind (arith, nat_tests)
 
 -- a pair that fits is held
-pub pushed : (before after : List (ℕ × ℕ)) (low high : ℕ) (r : Bool) → r ≡ fits before (low, high) → after ≡ cond r (before ++ ((low, high) ∷ [])) before → length before < 27 → low ≤ 16777215 → high ≤ 16777215 → after ≡ before ++ ((low, high) ∷ [])
+pub pushed : (before after : List (ℕ × ℕ)) (low high : ℕ) (r : Result (Unit {0}) PairFault) → r ≡ told (pair_fault before (low, high)) → after ≡ cond (is_ok r) (before ++ ((low, high) ∷ [])) before → length before < 27 → low ≤ 16777215 → high ≤ 16777215 → after ≡ before ++ ((low, high) ∷ [])
 pushed before after low high r answer is a b c =
-    is ∙ ap (λ t. cond t (before ++ ((low, high) ∷ [])) before) (answer ∙ fits_small before low high a b c)
+    is ∙ ap (λ t. cond (is_ok t) (before ++ ((low, high) ∷ [])) before) (answer ∙ ap told (no_fault before low high a b c))
 
 -- a charge that is not too large has small bounds
 pub bounds_small : (m : Meaning) → Terms m → large m ≡ false → (m.D 1 ≤ 16777215) × (m.U 1 ≤ 16777215)
@@ -39,6 +43,11 @@ module _ (m : Meaning) (ms : List Meaning) where
 
   pub first_later : (i : ℕ) → large m ≡ false → first_large ms ≡ Some i → first_large (m ∷ ms) ≡ Some (i + 1)
   first_later i a b = let e : suc i ≡ i + 1 = omega arith in rw (a, b) (ap Some e)
+
+-- the place that is told lies in the list
+pub told_within : (ms : List Meaning) (before after : List (ℕ × ℕ)) (r : Result (Unit {0}) TooLargeAt) (e : TooLargeAt) → Gathered ms before after r → r ≡ Err e → e.0 ≤ length ms
+told_within ms before after (Ok u) e h is = absurd cc
+told_within ms before after (Err f) e h is = let same : f ≡ e = cc in rw (← same) (found_within large ms f.0 h).1
 
 -- room for the others
 pub room_more : (before mid : List (ℕ × ℕ)) (pair : ℕ × ℕ) (n : ℕ) → mid ≡ before ++ (pair ∷ []) → length before + (1 + n) ≤ 27 → length mid + n ≤ 27

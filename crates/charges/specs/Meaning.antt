@@ -4,6 +4,7 @@ use Rattle.roots.specs.First.{first}
 use Rattle.roots.specs.Form.{form, added}
 use Rattle.roots.specs.Root.{lower, upper, ceiling_root}
 use Rattle.charges.specs.declared.charge.TooLarge.{TooLarge}
+use Rattle.charges.specs.declared.charge.TooLargeAt.{TooLargeAt}
 use Rattle.charges.specs.Quotients.{passes}
 
 pub record Meaning : Type 0 where
@@ -85,6 +86,6 @@ Told m (Ok b) = (large m ≡ false) × (b ≡ bounds m)
 Told m (Err e) = large m ≡ true
 
 -- what charges in order answer: all bounds behind those before, or the place of the first that is too large
-abbrev pub Gathered : List Meaning → List (ℕ × ℕ) → List (ℕ × ℕ) → Result (Unit {0}) ℕ → Type 0
+abbrev pub Gathered : List Meaning → List (ℕ × ℕ) → List (ℕ × ℕ) → Result (Unit {0}) TooLargeAt → Type 0
 Gathered ms before after (Ok u) = (first_large ms ≡ None) × (after ≡ before ++ all_bounds ms)
-Gathered ms before after (Err place) = first_large ms ≡ Some place
+Gathered ms before after (Err at) = first_large ms ≡ Some at.0

@@ -2,7 +2,7 @@
 use Rattle.std.specs.Prelude.{◌≡◌, ℕ, ◌+◌, Bool, true, false, ◌&&◌, List, [], ◌∷◌, ◌++◌, length, Some, None, Ok, Err, Result, nat_le}
 use Rattle.std.specs.Option.{option_map}
 use Rattle.charges.specs.declared.beside.Beside.{Beside}
-use Rattle.charges.specs.declared.figures.TooLargeAt.{TooLargeAt}
+use Rattle.charges.specs.declared.charge.TooLargeAt.{TooLargeAt}
 use Rattle.charges.specs.Formula.{limited, figures}
 use Rattle.charges.specs.Meaning.{Meaning, AllTerms, all_bounds, first_large}
 

@@ -2,7 +2,7 @@
 use Rattle.std.specs.Prelude.{◌≡◌, ℕ, ◌+◌, ◌-◌, ◌*◌, ◌<◌, ◌≤◌, true, List, [], length, get_or, Some, None, Ok, Err, Result, slice_index_or}
 use Rattle.roots.specs.Form.{added}
 use Rattle.charges.specs.declared.beside.Beside.{Beside}
-use Rattle.charges.specs.declared.figures.TooLargeAt.{TooLargeAt}
+use Rattle.charges.specs.declared.charge.TooLargeAt.{TooLargeAt}
 use Rattle.charges.specs.Formula.{basic, limited, figures}
 use Rattle.charges.specs.Held.{highs}
 use Rattle.charges.specs.Meaning.{Meaning, means, large, all_bounds, first_large}

@@ -33,8 +33,22 @@ pub trait Charge {
     ghost alike: { (a b : Self) → width a ≡ width b };
 }
 
-/// A charge's answer in place of a low and a high: its high, or that of a member at any depth, passes 16,777,215.
-#[derive(Clone, Copy)]
-pub struct TooLarge {
-    // it tells no more: a charge has no other refusal
+/// The largest high of a charge.
+pub(crate) const LIMIT: u32 = 16_777_215;
+
+/// A charge's answer in place of a low and a high: its high, or that of a member at any depth, passes
+/// 16,777,215. It tells no more: a charge has no other refusal.
+#[derive(Clone, Copy, PartialEq, Eq, Debug)]
+pub struct TooLarge;
+
+/// The first charge of a list that is too large, by its place from 1; of the figures, the lowest.
+#[derive(Clone, Copy, PartialEq, Eq, Debug)]
+pub struct TooLargeAt(pub u8);
+
+impl From<TooLargeAt> for TooLarge {
+    ghost from_gives = { λ _ _. Unit {0} };
+
+    fn from(_: TooLargeAt) -> TooLarge {
+        TooLarge
+    }
 }

@@ -3,7 +3,7 @@ ghost use Rattle.charges.specs.Leaves.{difference as difference_of};
 ghost use Rattle.charges.specs.LeafTerms.{difference_terms};
 ghost use Rattle.std.proofs.Common.{refl};
 
-use super::charge::{Charge, TooLarge};
+use super::charge::{Charge, LIMIT, TooLarge};
 
 mod larger;
 
@@ -13,8 +13,6 @@ pub struct Difference {
     losses: u64,
     gains: u64,
 }
-
-const LIMIT: u64 = 16_777_215;
 
 impl Charge for Difference {
     ghost D = { λ c. (difference_of c.losses c.gains).D };
@@ -29,8 +27,8 @@ impl Charge for Difference {
 
     fn bounds(&self) -> Result<(u32, u32), TooLarge> {
         let amount = self.losses.saturating_sub(self.gains);
-        if amount > LIMIT {
-            return Err(TooLarge {});
+        if amount > u64::from(LIMIT) {
+            return Err(TooLarge);
         }
         Ok((amount as u32, amount as u32))
     }

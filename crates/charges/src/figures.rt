@@ -5,14 +5,11 @@ ghost use Rattle.charges.specs.Steps.{Next};
 ghost use Rattle.charges.specs.Worked.{Answered};
 
 use super::beside::Beside;
+use super::charge::TooLargeAt;
 use super::last::finish;
 use super::members::Members;
 use super::pairs::Pairs;
 use roots::Table;
-
-/// The lowest figure that is too large.
-#[derive(Clone, Copy, PartialEq, Eq, Debug)]
-pub struct TooLargeAt(pub u8);
 
 /// The charges of figures 1 to 23.
 #[derive(Clone, Copy)]
@@ -35,11 +32,10 @@ fn gather_next<Ms: Members>(members: &Ms, pairs: &mut Pairs) -> Result<(), TooLa
     requires room { length (held pairs.old) + Ms.Members.count ≤ 27 }
     ensures { Next (Ms.Members.each members.now) (held pairs.old) (held pairs.new) result }
 {
-    let before = pairs.len();
-    let Err(place) = members.gather(pairs) else {
-        return Ok(());
-    };
-    Err(TooLargeAt((before + place) as u8))
+    let before = pairs.len() as u8;
+    members
+        .gather(pairs)
+        .map_err(|at| TooLargeAt(before + at.0))
 }
 
 // The bounds of figures 1 to 23.

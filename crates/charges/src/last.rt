@@ -1,4 +1,4 @@
-ghost use Rattle.std.specs.Prelude.{◌≡◌, ℕ, ◌+◌, ◌<◌, ◌≤◌, length};
+ghost use Rattle.std.specs.Prelude.{◌≡◌, ℕ, ◌+◌, ◌^◌, ◌<◌, ◌≤◌, length, sum};
 ghost use Rattle.roots.specs.Form.{added};
 ghost use Rattle.roots.specs.Held.{correlation, held as amounts_held};
 ghost use Rattle.charges.specs.Formula.{operational_down, operational_up, minimum_down, minimum_up};
@@ -6,7 +6,7 @@ ghost use Rattle.charges.specs.Held.{held};
 ghost use Rattle.charges.specs.Steps.{Pushed, Finished};
 
 use super::beside::Beside;
-use super::figures::TooLargeAt;
+use super::charge::TooLargeAt;
 use super::pairs::{Pairs, Side};
 use roots::{Amounts, Table};
 
@@ -35,16 +35,18 @@ fn minimum(beside: &Beside, scr: (u32, u32)) -> (u32, u32)
     )
 }
 
+fn summed(xs: &[u32]) -> u32
+    requires { sum xs.now < 2 ^ 32 }
+    ensures { result ≡ sum xs.now }
+{
+    xs.iter().sum()
+}
+
 // The amounts added.
 fn added_up(amounts: &Amounts) -> u32
     ensures { result ≡ added (amounts_held amounts.now) }
 {
-    let xs = amounts.as_slice();
-    let mut all = 0;
-    for i in 0..xs.len() {
-        all += xs[i];
-    }
-    all
+    summed(amounts.as_slice())
 }
 
 // One figure more, unless it is too large.
@@ -53,11 +55,7 @@ fn push_next(pairs: &mut Pairs, pair: (u32, u32)) -> Result<(), TooLargeAt>
     ensures { Pushed pair (held pairs.old) (held pairs.new) result }
 {
     let figure = pairs.len() as u8 + 1;
-    if pairs.push(pair) {
-        Ok(())
-    } else {
-        Err(TooLargeAt(figure))
-    }
+    pairs.push(pair).map_err(|_| TooLargeAt(figure))
 }
 
 // Figures 24 to 28 behind the 23 that are held, the last five of which are the members of the basic SCR.

@@ -13,11 +13,11 @@ mod rate;
 mod squares;
 
 pub use beside::Beside;
-pub use charge::{Charge, TooLarge};
+pub use charge::{Charge, TooLarge, TooLargeAt};
 pub use difference::Difference;
-pub use figures::{Charges, TooLargeAt, work_out};
+pub use figures::{Charges, work_out};
 pub use members::Members;
 pub use module::Module;
-pub use pairs::Pairs;
+pub use pairs::{PairFault, Pairs};
 pub use rate::{Parts, Rate};
 pub use squares::RootOfSquares;

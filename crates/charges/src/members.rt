@@ -4,7 +4,7 @@ ghost use Rattle.charges.specs.Held.{held};
 ghost use Rattle.charges.specs.Meaning.{Meaning, AllTerms, Gathered, means, widths as widths_of};
 ghost use Rattle.std.proofs.Common.{refl, sym, ap, ap₂, one-add, ◌∙◌};
 
-use super::charge::Charge;
+use super::charge::{Charge, TooLargeAt};
 use super::pairs::Pairs;
 
 /// Charges in order: nested pairs that end in ().
@@ -18,8 +18,8 @@ pub trait Members {
     // of the type alone: each charge has two to sixteen members at every depth
     ghost proper: { Type 0 };
 
-    /// The bounds of all behind those that are held, or the place from 1 of the first charge that is too large.
-    fn gather(&self, pairs: &mut Pairs) -> Result<(), usize>
+    /// The bounds of all behind those that are held, or the first charge that is too large.
+    fn gather(&self, pairs: &mut Pairs) -> Result<(), TooLargeAt>
         requires make { proper }
         requires room { length (held pairs.old) + count ≤ 27 }
         ensures { Gathered (each self.now) (held pairs.old) (held pairs.new) result };
@@ -53,7 +53,7 @@ impl Members for () {
 
     ghost alike = { λ a b. refl };
 
-    fn gather(&self, _pairs: &mut Pairs) -> Result<(), usize> {
+    fn gather(&self, _pairs: &mut Pairs) -> Result<(), TooLargeAt> {
         Ok(())
     }
 
@@ -79,15 +79,10 @@ impl<C: Charge, R: Members> Members for (C, R) {
 
     ghost alike = { λ a b. ap₂ (λ w ws. w ∷ ws) (C.Charge.alike a.0 b.0) (R.Members.alike a.1 b.1) };
 
-    fn gather(&self, pairs: &mut Pairs) -> Result<(), usize> {
-        let Ok(pair) = self.0.bounds() else {
-            return Err(1);
-        };
+    fn gather(&self, pairs: &mut Pairs) -> Result<(), TooLargeAt> {
+        let pair = self.0.bounds().map_err(|_| TooLargeAt(1))?;
         let _ = pairs.push(pair);
-        let Err(place) = self.1.gather(pairs) else {
-            return Ok(());
-        };
-        Err(place + 1)
+        self.1.gather(pairs).map_err(|at| TooLargeAt(at.0 + 1))
     }
 
     fn len(&self) -> u32 {

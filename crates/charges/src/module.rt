@@ -7,7 +7,7 @@ ghost use Rattle.charges.specs.Modules.{module_terms};
 ghost use Rattle.roots.specs.Form.{added};
 ghost use Rattle.roots.specs.Root.{ceiling_root};
 
-use super::charge::{Charge, TooLarge};
+use super::charge::{Charge, LIMIT, TooLarge};
 use super::members::Members;
 use super::pairs::{Pairs, Side};
 use roots::{Table, ceiling_root};
@@ -18,8 +18,6 @@ pub struct Module<Ms> {
     members: Ms,
     table: Table,
 }
-
-const LIMIT: u32 = 16_777_215;
 
 impl<Ms> Module<Ms> {
     /// These members under this table.
@@ -50,13 +48,11 @@ impl<Ms: Members> Charge for Module<Ms> {
 
     fn bounds(&self) -> Result<(u32, u32), TooLarge> {
         let mut pairs = Pairs::new();
-        let Ok(()) = self.members.gather(&mut pairs) else {
-            return Err(TooLarge {});
-        };
+        self.members.gather(&mut pairs)?;
         let (low, _) = self.table.combined(&pairs.side(0, Side::Low));
         let (_, high) = self.table.combined(&pairs.side(0, Side::High));
         if high > LIMIT {
-            return Err(TooLarge {});
+            return Err(TooLarge);
         }
         Ok((low, high))
     }

@@ -11,6 +11,15 @@ pub struct Pairs {
     ghost highs: { ((i : ℕ) → (slice_index_or values i (0, 0)).1 < 16777216) },
 }
 
+/// Why a pair finds no place.
+#[derive(Clone, Copy, PartialEq, Eq, Debug)]
+pub enum PairFault {
+    /// 27 are held.
+    Full,
+    /// The low or the high passes 16,777,215.
+    Large,
+}
+
 /// The low or the high of a pair.
 #[derive(Clone, Copy)]
 pub(crate) enum Side {

@@ -4,7 +4,7 @@ ghost use Rattle.charges.specs.Leaves;
 ghost use Rattle.charges.specs.LeafTerms.{rate_terms, parts_some};
 ghost use Rattle.std.proofs.Common.{refl};
 
-use super::charge::{Charge, TooLarge};
+use super::charge::{Charge, LIMIT, TooLarge};
 
 mod make;
 
@@ -24,8 +24,6 @@ pub struct Rate {
     parts: Parts,
 }
 
-const LIMIT: u128 = 16_777_215;
-
 impl Charge for Rate {
     ghost D = { λ c. (rate_of c.total c.numerator (parts_of c.parts)).D };
 
@@ -42,8 +40,8 @@ impl Charge for Rate {
         let by = self.parts.count() as u128;
         let low = amount / by;
         let high = (amount + (by - 1)) / by;
-        if high > LIMIT {
-            return Err(TooLarge {});
+        if high > u128::from(LIMIT) {
+            return Err(TooLarge);
         }
         Ok((low as u32, high as u32))
     }

@@ -30,7 +30,7 @@ impl Charge for RootOfSquares {
 
     fn bounds(&self) -> Result<(u32, u32), TooLarge> {
         if self.total > MOST {
-            return Err(TooLarge {});
+            return Err(TooLarge);
         }
         let pair = roots(100 * self.total);
         Ok(pair)

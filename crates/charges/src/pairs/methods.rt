@@ -1,13 +1,13 @@
-ghost use Rattle.std.specs.Prelude.{◌≡◌, ◌+◌, ◌≤◌, [], ◌∷◌, ◌++◌, length, drop, if◌then◌else◌};
+ghost use Rattle.std.specs.Prelude.{◌≡◌, ◌+◌, ◌≤◌, [], ◌∷◌, ◌++◌, length, drop, is_ok, if◌then◌else◌};
+ghost use Rattle.roots.specs.Answers.{told};
 ghost use Rattle.roots.specs.Held.{held as amounts_held};
-ghost use Rattle.charges.specs.Held.{held, fits, side_of, sides};
+ghost use Rattle.charges.specs.Held.{held, pair_fault, side_of, sides};
 
-use super::{Pairs, Side};
+use super::super::charge::LIMIT;
+use super::{PairFault, Pairs, Side};
 use roots::Amounts;
 
 const MOST: usize = 27;
-
-const LIMIT: u32 = 16_777_215;
 
 impl Side {
     fn of(self, pair: (u32, u32)) -> u32
@@ -39,17 +39,27 @@ impl Pairs {
         self.len
     }
 
-    /// One pair more; `false`, and nothing changed, where 27 are held or one of the two passes the limit.
-    pub fn push(&mut self, pair: (u32, u32)) -> bool
-        ensures answer { result ≡ fits (held self.old) pair }
-        ensures after { held self.new ≡ (if result then held self.old ++ (pair ∷ []) else held self.old) }
+    /// One pair more behind those held; a fault leaves them as they were.
+    pub fn push(&mut self, pair: (u32, u32)) -> Result<(), PairFault>
+        ensures answer { result ≡ told (pair_fault (held self.old) pair) }
+        ensures after { held self.new ≡ (if is_ok result then held self.old ++ (pair ∷ []) else held self.old) }
     {
-        if self.len >= MOST || pair.0 > LIMIT || pair.1 > LIMIT {
-            return false;
+        if self.len >= MOST {
+            return Err(PairFault::Full);
+        }
+        if pair.0 > LIMIT || pair.1 > LIMIT {
+            return Err(PairFault::Large);
         }
         self.values[self.len] = pair;
         self.len += 1;
-        true
+        Ok(())
+    }
+
+    // The pairs in order.
+    fn as_slice(&self) -> &[(u32, u32)]
+        ensures { result.now ≡ held self.now }
+    {
+        &self.values[..self.len]
     }
 
     // The lows or the highs behind the first `from`.
@@ -59,8 +69,8 @@ impl Pairs {
         ensures { amounts_held result ≡ sides side (drop from (held self.now)) }
     {
         let mut amounts = Amounts::new();
-        for i in from..self.len {
-            let _ = amounts.push(side.of(self.values[i]));
+        for pair in &self.as_slice()[from..] {
+            let _ = amounts.push(side.of(*pair));
         }
         amounts
     }

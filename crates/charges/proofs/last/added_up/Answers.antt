@@ -1,20 +1,21 @@
-use Rattle.std.proofs.Common.{◌≡◌, ℕ, ◌+◌, ◌*◌, ◌<◌, ◌≤◌, List, [], ◌∷◌, ◌++◌, length, get_or, take, sym, refl, ap, ◌∙◌, arith}
-use Rattle.std.proofs.lemmas.List.{take_more, take_all}
-use Rattle.roots.specs.Form.{added}
+use Rattle.std.proofs.Common.{◌≡◌, ℕ, suc, ◌+◌, ◌*◌, ◌^◌, ◌<◌, ◌≤◌, List, [], ◌∷◌, length, refl, ap, ◌∙◌, arith}
+use Rattle.std.specs.List.{sum}
+use Rattle.std.proofs.lemmas.List.Sums.{sum_by-cons}
+use Rattle.roots.specs.Form.{at, added}
 use Rattle.charges.proofs.last.added_up.Goals as goal
 
-added_push : (xs : List ℕ) (x : ℕ) → added (xs ++ (x ∷ [])) ≡ added xs + x
-added_push [] x = omega arith
-added_push (y ∷ xs) x = omega (arith, added_push xs x)
+sum_added : (xs : List ℕ) → sum xs ≡ added xs
+sum_added [] = refl
+sum_added (x ∷ xs) = omega (arith, sum_by-cons (λ x. x) x xs, sum_added xs)
 
-more : (xs : List ℕ) (i : ℕ) → i < length xs → added (take (i + 1) xs) ≡ added (take i xs) + get_or xs i 0
-more xs i h = ap added (take_more xs i 0 h) ∙ added_push (take i xs) (get_or xs i 0)
+small_sum : (xs : List ℕ) → ((i : ℕ) → at xs i < 16777216) → added xs ≤ length xs * 16777215
+small_sum [] h = omega arith
+small_sum (x ∷ xs) h = omega (arith, h 0, small_sum xs (λ i. h (suc i)))
 
-pub overflow_add-all : goal.overflow_add-all
-overflow_add-all c = omega (arith, c.as_slice-xs.ensures.small c.loop-i.i)
-
-pub loop-i-preserved : goal.loop-i-preserved
-loop-i-preserved c = (omega (arith, more c.as_slice-xs.result.now c.loop-i.i c.loop-i-test.true, c.loop-i.invariant.0), omega (arith, c.as_slice-xs.ensures.small c.loop-i.i))
+pub summed-requires : goal.summed-requires
+summed-requires c =
+    let xs = c.as_slice.result.now in
+    omega (arith, sum_added xs, small_sum xs c.as_slice.ensures.small, c.as_slice.ensures.few)
 
 pub returns : goal.returns
-returns c = c.loop-i.invariant.0 ∙ ap added (take_all c.loop-i.i c.as_slice-xs.result.now c.loop-i-test.false ∙ c.as_slice-xs.ensures.value)
+returns c = c.summed.ensures ∙ sum_added c.as_slice.result.now ∙ ap added c.as_slice.ensures.value

@@ -1,4 +1,5 @@
 use Rattle.std.proofs.Common.{◌≡◌, ℕ, ◌≤◌, List, [], ◌++◌, length, sym, refl, ap, ◌∙◌, ap₂, arith}
+use Rattle.std.proofs.lemmas.Result.{err_from_is_err_and}
 use Rattle.roots.specs.Form.{form}
 use Rattle.roots.specs.Held.{correlation}
 use Rattle.roots.specs.Root.{lower, upper}
@@ -19,32 +20,25 @@ low_is e ms ps xs r a b h = ap (λ (p : ℕ × ℕ). p.0) h ∙ ap (λ l. lower 
 high_is : (e : ℕ → ℕ → ℕ) (ms : List Meaning) (ps : List (ℕ × ℕ)) (xs : List ℕ) (r : ℕ × ℕ) → ps ≡ all_bounds ms → xs ≡ sides High ps → r ≡ (lower (form e xs), upper (form e xs)) → r.1 ≡ upper (form e (ups ms 1))
 high_is e ms ps xs r a b h = ap (λ (p : ℕ × ℕ). p.1) h ∙ ap (λ l. upper (form e l)) (b ∙ ap (sides High) a ∙ highs_of ms)
 
-pub returns-in_default : goal.returns-in_default
-returns-in_default g c = large_member (correlation c.args.self.now.table) (g.Ms.Members.each c.args.self.now.members) c.in_default.field-0 c.in_default.ensures
-
-few : (ms : List Meaning) (n : ℕ) (before after : List (ℕ × ℕ)) → before ≡ [] → after ≡ before ++ all_bounds ms → length ms ≡ n → n ≤ 16 → length after ≤ 16
-few ms n before after e h counted small = omega (arith, ap length (all_of ms before after e h), bounds_length ms)
-
-pub side-requires : goal.side-requires
-side-requires g c =
-    record { within = omega arith; few = few (g.Ms.Members.each c.args.self.now.members) _ _ _ c.new-pairs.ensures c.in-Ok.ensures.1 (g.met.Ms.Members.counted c.args.self.now.members) c.requires.1 }
-
-pub side-requires-2 : goal.side-requires-2
-side-requires-2 g c =
-    record { within = omega arith; few = few (g.Ms.Members.each c.args.self.now.members) _ _ _ c.new-pairs.ensures c.in-Ok.ensures.1 (g.met.Ms.Members.counted c.args.self.now.members) c.requires.1 }
+pub returns-in_err-gather : goal.returns-in_err-gather
+returns-in_err-gather g c =
+    let p = err_from_is_err_and c.from_residual.result c.from_residual.ensures.1 in
+    rw p.1 (large_member (correlation c.args.self.now.table) (g.Ms.Members.each c.args.self.now.members) _ c.in_err-gather.ensures)
 
 pub returns-then-high-gt-LIMIT : goal.returns-then-high-gt-LIMIT
 returns-then-high-gt-LIMIT g c =
     let e = correlation c.args.self.now.table in
     let ms = g.Ms.Members.each c.args.self.now.members in
-    let all = all_of ms (held c.new-pairs.result) (held c.gather.new.pairs) c.new-pairs.ensures c.in-Ok.ensures.1 in
+    let gathered = c.in_ok-gather.ensures in
+    let all = all_of ms (held c.new-pairs.result) (held c.gather.new.pairs) c.new-pairs.ensures gathered.1 in
     large_itself e ms c.combined-high.result.1 (high_is e ms (held c.gather.new.pairs) _ c.combined-high.result all c.side-2.ensures c.combined-high.ensures.value) c.if-high-gt-LIMIT.true
 
 pub returns : goal.returns
 returns g c =
     let e = correlation c.args.self.now.table in
     let ms = g.Ms.Members.each c.args.self.now.members in
-    let all = all_of ms (held c.new-pairs.result) (held c.gather.new.pairs) c.new-pairs.ensures c.in-Ok.ensures.1 in
+    let gathered = c.in_ok-gather.ensures in
+    let all = all_of ms (held c.new-pairs.result) (held c.gather.new.pairs) c.new-pairs.ensures gathered.1 in
     let high = high_is e ms (held c.gather.new.pairs) _ c.combined-high.result all c.side-2.ensures c.combined-high.ensures.value in
     let low = low_is e ms (held c.gather.new.pairs) _ c.combined-low.result all c.side.ensures c.combined-low.ensures.value in
-    (not_large e ms c.combined-high.result.1 c.in-Ok.ensures.0 high c.if-high-gt-LIMIT.false, ap₂ (λ (l h : ℕ). (l, h)) low high)
+    (not_large e ms c.combined-high.result.1 gathered.0 high c.if-high-gt-LIMIT.false, ap₂ (λ (l h : ℕ). (l, h)) low high)

@@ -3,5 +3,5 @@ use Rattle.roots.specs.Held.{held as amounts_held}
 use Rattle.charges.specs.Held.{held, sides}
 use Rattle.charges.proofs.pairs.Pairs.side.Given as goal
 
-abbrev pub invariant-loop-i : goal.invariant-loop-i
-invariant-loop-i l = amounts_held l.amounts ≡ sides l.side (drop l.from (take l.i (held l.self)))
+abbrev pub invariant-loop-pair : goal.invariant-loop-pair
+invariant-loop-pair l = amounts_held l.amounts ≡ sides l.side (take l.pair-index l.pair-items)
