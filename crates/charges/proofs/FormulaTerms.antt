@@ -1,12 +1,11 @@
 -- Figures 24 to 28 keep the terms, for any charges. Assumes nothing.
-use Rattle.std.proofs.Common.{◌≡◌, ℕ, zero, suc, ◌+◌, ◌-◌, ◌*◌, ◌/◌, ◌<◌, ◌≤◌, min, max, List, [], ◌∷◌, ◌++◌, sym, refl, ap, ◌∙◌, mul-le-mul_left, arith}
+use Rattle.std.proofs.Common.{◌≡◌, ℕ, ◌+◌, ◌*◌, ◌≤◌, min, max, List, [], ◌∷◌, ◌++◌, mul-le-mul_left, arith}
 use native.Mathlib.Decide.{dec_le}
 use native.Mathlib.Nat.{mul-sub}
 use Rattle.roots.specs.Form.{added, Sound}
 use Rattle.charges.specs.declared.beside.Beside.{Beside}
 use Rattle.charges.specs.Formula.{operational, together, minimum, diversification, basic, scr, last, limited, figures}
-use Rattle.charges.specs.Meaning.{Meaning, Terms, AllTerms, downs, ups, widths, module_of}
-use Rattle.charges.specs.Quotients.{over}
+use Rattle.charges.specs.Meaning.{Meaning, Terms, AllTerms, downs, ups, widths}
 use Rattle.charges.proofs.Lists.{all-++}
 use Rattle.charges.specs.Modules.{module_terms}
 use Rattle.charges.specs.Quotient.{under_finer, over_finer}

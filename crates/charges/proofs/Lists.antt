@@ -1,8 +1,7 @@
 -- Lists of charges, one behind the other. Assumes nothing.
-use Rattle.std.proofs.Common.{◌≡◌, ℕ, zero, suc, ◌+◌, ◌≤◌, List, [], ◌∷◌, ◌++◌, map, length, get_or, Some, None, sym, refl, ap, ◌∙◌, arith}
+use Rattle.std.proofs.Common.{◌≡◌, ℕ, zero, suc, ◌+◌, List, [], ◌∷◌, ◌++◌, length, get_or, Some, None, ap, ◌∙◌}
 use Rattle.std.proofs.lemmas.List.{map-append, length-map}
 use Rattle.std.specs.Option.{option_map}
-use Rattle.roots.specs.Form.{added}
 use Rattle.roots.proofs.Firsts.{first_before, first_behind}
 use Rattle.charges.specs.Meaning.{Meaning, Terms, AllTerms, large, all_bounds, first_large}
 

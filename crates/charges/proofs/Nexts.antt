@@ -1,5 +1,5 @@
 -- Lists of charges gathered one behind the other. Assumes nothing.
-use Rattle.std.proofs.Common.{◌≡◌, ℕ, ◌+◌, ◌≤◌, List, [], ◌∷◌, ◌++◌, length, Some, None, Option, sym, refl, ap, ◌∙◌, append_assoc, arith, length-append}
+use Rattle.std.proofs.Common.{◌≡◌, ℕ, ◌+◌, List, ◌++◌, length, Some, None, Option, sym, refl, ap, ◌∙◌, append_assoc, arith, length-append}
 use Rattle.std.specs.Option.{option_map}
 use Rattle.charges.specs.Meaning.{Meaning, all_bounds, first_large}
 use Rattle.charges.proofs.Lists.{none_behind, some_behind, some_before, bounds-++, bounds_length}

@@ -1,17 +1,14 @@
 -- Figures that were worked out keep the laws. Assumes nothing.
-use Rattle.std.proofs.Common.{◌≡◌, ℕ, zero, suc, ◌+◌, ◌-◌, ◌*◌, ◌≤◌, List, [], ◌∷◌, length, get_or, None, sym, refl, ap, ◌∙◌, subst, mul-one, arith}
-use Rattle.std.proofs.lemmas.List.{get_or-map}
-use Rattle.roots.specs.Form.{at, form, added, Sound}
-use Rattle.roots.specs.Root.{lower, upper}
+use Rattle.std.proofs.Common.{◌≡◌, ℕ, zero, suc, ◌-◌, List, [], ◌∷◌, get_or, None, sym, refl, ap, ◌∙◌, subst, mul-one, arith}
+use Rattle.roots.specs.Form.{at, added, Sound}
 use Rattle.roots.proofs.Laws.{lawful}
 use Rattle.charges.specs.declared.beside.Beside.{Beside}
-use Rattle.charges.specs.Formula.{basic, limited, figures}
-use Rattle.charges.specs.Held.{lows, highs}
+use Rattle.charges.specs.Formula.{limited, figures}
+use Rattle.charges.specs.Held.{highs}
 use Rattle.charges.specs.Meaning.{Meaning, Terms, AllTerms, downs, ups, bounds, all_bounds, first_large}
-use Rattle.charges.specs.Worked.{nothing, figure, low, high, Between, WorkedOut}
+use Rattle.charges.specs.Worked.{nothing, Between, WorkedOut}
 use Rattle.charges.proofs.FormulaTerms.{figures_terms}
-use Rattle.charges.specs.LeafTerms.{difference_terms}
-use Rattle.charges.proofs.Lists.{all_at, bounds_length}
+use Rattle.charges.proofs.Lists.{all_at}
 
 -- a charge between its low and its high in every unit
 pub between : (m : Meaning) → Terms m → Between m (m.D 1) (m.U 1)

@@ -1,5 +1,5 @@
 -- The charges without members keep the terms. Assumes nothing.
-use Rattle.std.specs.Prelude.{ℕ, ◌+◌, ◌-◌, ◌*◌, ◌<◌, ◌≤◌}
+use Rattle.std.specs.Prelude.{ℕ, ◌*◌, ◌<◌}
 use Rattle.std.proofs.Math.Nat.{mul-sub}
 use Rattle.std.proofs.Common.{arith}
 use Rattle.roots.proofs.RootLaws.{lower_le_upper, upper_next, lower_finer, upper_finer}

@@ -1,5 +1,5 @@
 -- What the charges without members mean. Assumes nothing.
-use Rattle.std.specs.Prelude.{ℕ, ◌-◌, ◌*◌, ◌/◌, max, []}
+use Rattle.std.specs.Prelude.{ℕ, ◌-◌, ◌*◌, ◌/◌, []}
 use Rattle.roots.specs.Root.{lower, upper}
 use Rattle.charges.specs.declared.difference.Difference.{Difference}
 use Rattle.charges.specs.declared.rate.Parts.{Parts}

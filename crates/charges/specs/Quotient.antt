@@ -1,5 +1,5 @@
 -- Quotients rounded down and up. Assumes nothing.
-use Rattle.std.specs.Prelude.{◌≡◌, ℕ, ◌+◌, ◌-◌, ◌*◌, ◌/◌, ◌<◌, ◌≤◌}
+use Rattle.std.specs.Prelude.{ℕ, ◌+◌, ◌-◌, ◌*◌, ◌/◌, ◌<◌, ◌≤◌}
 use Rattle.std.proofs.Common.{arith, mul-le-mul_left, le-div_iff_mul-le, div-lt_iff_lt-mul}
 use Rattle.charges.specs.Quotients.{over}
 

@@ -1,11 +1,11 @@
 -- What working out tells of figures, by their numbers from 1. Assumes nothing.
-use Rattle.std.specs.Prelude.{◌≡◌, ℕ, ◌+◌, ◌-◌, ◌*◌, ◌<◌, ◌≤◌, true, List, [], length, get_or, Some, None, Ok, Err, Result, slice_index_or}
+use Rattle.std.specs.Prelude.{◌≡◌, ℕ, ◌+◌, ◌-◌, ◌*◌, ◌≤◌, List, [], length, get_or, Some, None, Ok, Err, Result, slice_index_or}
 use Rattle.roots.specs.Form.{added}
 use Rattle.charges.specs.declared.beside.Beside.{Beside}
 use Rattle.charges.specs.declared.charge.TooLargeAt.{TooLargeAt}
 use Rattle.charges.specs.Formula.{basic, limited, figures}
 use Rattle.charges.specs.Held.{highs}
-use Rattle.charges.specs.Meaning.{Meaning, means, large, all_bounds, first_large}
+use Rattle.charges.specs.Meaning.{Meaning, means, all_bounds, first_large}
 
 abbrev pub nothing : Meaning
 nothing = means (λ k. 0) (λ k. 0) 0 []

@@ -1,36 +1,10 @@
-use Rattle.std.proofs.Common.{◌≡◌, ◌+◌, ◌≤◌, ◌++◌, arith}
+use Rattle.std.proofs.Common.{◌++◌}
 use Rattle.std.proofs.lemmas.Result.{err_from_is_err_and}
 use Rattle.charges.specs.Held.{held}
-use Rattle.charges.proofs.Nexts.{early, both, late, longer}
+use Rattle.charges.proofs.Nexts.{early, both, late}
 use Rattle.charges.proofs.figures.gather_all.Goals as goal
 
 -- In the answers, h0 is what is held at first, and h1 to h5 after the first to the fifth list.
-
-pub gather_next-requires-2 : goal.gather_next-requires-2
-gather_next-requires-2 g c =
-    let l1 = longer (g.Market.Members.each c.args.charges.now.market) (held c.args.pairs.now) (held c.gather_next.new.pairs) _ c.in_ok-gather_next.ensures.1 (g.met.Market.Members.counted c.args.charges.now.market) in
-    record { make = c.requires.make.1; room = omega (arith, c.requires.shown, c.requires.basic, c.requires.none) }
-
-pub gather_next-requires-3 : goal.gather_next-requires-3
-gather_next-requires-3 g c =
-    let l1 = longer (g.Market.Members.each c.args.charges.now.market) (held c.args.pairs.now) (held c.gather_next.new.pairs) _ c.in_ok-gather_next.ensures.1 (g.met.Market.Members.counted c.args.charges.now.market) in
-    let l2 = longer (g.Life.Members.each c.args.charges.now.life) (held c.gather_next.new.pairs) (held c.gather_next-2.new.pairs) _ c.in_ok-gather_next-2.ensures.1 (g.met.Life.Members.counted c.args.charges.now.life) in
-    record { make = c.requires.make.2; room = omega (arith, c.requires.shown, c.requires.basic, c.requires.none) }
-
-pub gather_next-requires-4 : goal.gather_next-requires-4
-gather_next-requires-4 g c =
-    let l1 = longer (g.Market.Members.each c.args.charges.now.market) (held c.args.pairs.now) (held c.gather_next.new.pairs) _ c.in_ok-gather_next.ensures.1 (g.met.Market.Members.counted c.args.charges.now.market) in
-    let l2 = longer (g.Life.Members.each c.args.charges.now.life) (held c.gather_next.new.pairs) (held c.gather_next-2.new.pairs) _ c.in_ok-gather_next-2.ensures.1 (g.met.Life.Members.counted c.args.charges.now.life) in
-    let l3 = longer (g.Health.Members.each c.args.charges.now.health) (held c.gather_next-2.new.pairs) (held c.gather_next-3.new.pairs) _ c.in_ok-gather_next-3.ensures.1 (g.met.Health.Members.counted c.args.charges.now.health) in
-    record { make = c.requires.make.3; room = omega (arith, c.requires.shown, c.requires.basic, c.requires.none) }
-
-pub gather_next-requires-5 : goal.gather_next-requires-5
-gather_next-requires-5 g c =
-    let l1 = longer (g.Market.Members.each c.args.charges.now.market) (held c.args.pairs.now) (held c.gather_next.new.pairs) _ c.in_ok-gather_next.ensures.1 (g.met.Market.Members.counted c.args.charges.now.market) in
-    let l2 = longer (g.Life.Members.each c.args.charges.now.life) (held c.gather_next.new.pairs) (held c.gather_next-2.new.pairs) _ c.in_ok-gather_next-2.ensures.1 (g.met.Life.Members.counted c.args.charges.now.life) in
-    let l3 = longer (g.Health.Members.each c.args.charges.now.health) (held c.gather_next-2.new.pairs) (held c.gather_next-3.new.pairs) _ c.in_ok-gather_next-3.ensures.1 (g.met.Health.Members.counted c.args.charges.now.health) in
-    let l4 = longer (g.NonLife.Members.each c.args.charges.now.non_life) (held c.gather_next-3.new.pairs) (held c.gather_next-4.new.pairs) _ c.in_ok-gather_next-4.ensures.1 (g.met.NonLife.Members.counted c.args.charges.now.non_life) in
-    record { make = c.requires.make.4; room = omega (arith, c.requires.shown, c.requires.basic, c.requires.none) }
 
 pub returns-in_err-gather_next : goal.returns-in_err-gather_next
 returns-in_err-gather_next g c =

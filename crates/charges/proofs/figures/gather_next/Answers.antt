@@ -1,4 +1,4 @@
-use Rattle.std.proofs.Common.{◌+◌, ◌≤◌, arith}
+use Rattle.std.proofs.Common.{arith}
 use Rattle.charges.specs.Held.{held}
 use Rattle.charges.proofs.Gathering.{told_within}
 use Rattle.charges.proofs.figures.gather_next.Goals as goal

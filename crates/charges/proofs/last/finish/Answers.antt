@@ -1,36 +1,16 @@
-use Rattle.std.proofs.Common.{◌≡◌, ℕ, ◌+◌, ◌-◌, ◌<◌, ◌≤◌, List, [], ◌∷◌, ◌++◌, length, refl, ap, ◌∙◌, ap₂, arith}
+use Rattle.std.proofs.Common.{◌≡◌, ℕ, ◌+◌, ◌-◌, List, [], ◌∷◌, ◌++◌, length, refl, ap, ◌∙◌, ap₂}
 use Rattle.std.proofs.lemmas.List.{length_push}
 use Rattle.std.proofs.lemmas.Result.{err_from_is_err_and}
 use Rattle.roots.specs.Form.{added}
-use Rattle.roots.specs.Held.{correlation, held as amounts_held}
+use Rattle.roots.specs.Held.{correlation}
 use Rattle.roots.proofs.Tables.{table_sound}
 use Rattle.charges.specs.Held.{held}
 use Rattle.charges.specs.Meaning.{downs, ups}
-use Rattle.charges.proofs.Finishing.{small_sides, basic_pair, lows_are, highs_are, stop_basic, stop_operational, stop_scr, stop_minimum, all_figures}
+use Rattle.charges.proofs.Finishing.{basic_pair, lows_are, highs_are, stop_basic, stop_scr, stop_minimum, all_figures}
 use Rattle.charges.proofs.last.finish.Goals as goal
 
 longer : (before after : List (ℕ × ℕ)) (p : ℕ × ℕ) → after ≡ before ++ (p ∷ []) → length after ≡ length before + 1
 longer before after p e = ap length e ∙ length_push before p
-
-pub push_next-requires-2 : goal.push_next-requires-2
-push_next-requires-2 c = omega (arith, longer _ _ _ c.in_ok-push_next.ensures.1, c.requires)
-
-pub push_next-requires-3 : goal.push_next-requires-3
-push_next-requires-3 c = omega (arith, longer _ _ _ c.in_ok-push_next.ensures.1, longer _ _ _ c.in_ok-push_next-2.ensures.1, c.requires)
-
-pub push_next-requires-4 : goal.push_next-requires-4
-push_next-requires-4 c =
-    omega (arith, longer _ _ _ c.in_ok-push_next.ensures.1, longer _ _ _ c.in_ok-push_next-2.ensures.1, longer _ _ _ c.in_ok-push_next-3.ensures.1, c.requires)
-
-pub and_last-requires : goal.and_last-requires
-and_last-requires c =
-    omega (arith, longer _ _ _ c.in_ok-push_next.ensures.1, longer _ _ _ c.in_ok-push_next-2.ensures.1, longer _ _ _ c.in_ok-push_next-3.ensures.1, longer _ _ _ c.in_ok-push_next-4.ensures.1, c.requires)
-
-pub overflow_add-scr : goal.overflow_add-scr
-overflow_add-scr c = omega (arith, small_sides (c.combined-low.result.0, c.combined-high.result.1) c.in_ok-push_next.ensures.0, small_sides (c.operational-o_low.result.0, c.operational-o_low.result.1) c.in_ok-push_next-2.ensures.0)
-
-pub overflow_add-scr-2 : goal.overflow_add-scr-2
-overflow_add-scr-2 c = omega (arith, small_sides (c.combined-low.result.0, c.combined-high.result.1) c.in_ok-push_next.ensures.0, small_sides (c.operational-o_low.result.0, c.operational-o_low.result.1) c.in_ok-push_next-2.ensures.0)
 
 pub returns-in_err-push_next : goal.returns-in_err-push_next
 returns-in_err-push_next c = λ shown members terms many none is.
@@ -39,14 +19,6 @@ returns-in_err-push_next c = λ shown members terms many none is.
     let own = basic_pair e (table_sound c.args.table.now) t shown members terms (held c.args.pairs) (none, is) many _ _ c.combined-low.result c.combined-high.result c.side-lows.ensures c.side-highs.ensures c.combined-low.ensures.value c.combined-high.ensures.value in
     let p = err_from_is_err_and c.from_residual.result c.from_residual.ensures.1 in
     rw (p.1, p.2) (stop_basic e (table_sound c.args.table.now) t shown members terms (held c.args.pairs) (none, is) _ own _ c.in_err-push_next.ensures)
-
-pub returns-in_err-push_next-2 : goal.returns-in_err-push_next-2
-returns-in_err-push_next-2 c = λ shown members terms many none is.
-    let e = correlation c.args.table.now in
-    let t = c.args.beside.now in
-    let own = basic_pair e (table_sound c.args.table.now) t shown members terms (held c.args.pairs) (none, is) many _ _ c.combined-low.result c.combined-high.result c.side-lows.ensures c.side-highs.ensures c.combined-low.ensures.value c.combined-high.ensures.value in
-    let p = err_from_is_err_and c.from_residual-in_err-push_next-2.result c.from_residual-in_err-push_next-2.ensures.1 in
-    rw (p.1, p.2) (stop_operational e (table_sound c.args.table.now) t shown members terms (held c.args.pairs) (none, is) _ own _ c.in_ok-push_next.ensures c.operational-o_low.result c.operational-o_low.ensures _ c.in_err-push_next-2.ensures)
 
 pub returns-in_err-push_next-3 : goal.returns-in_err-push_next-3
 returns-in_err-push_next-3 c = λ shown members terms many none is.

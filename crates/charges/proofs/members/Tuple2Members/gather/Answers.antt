@@ -1,4 +1,4 @@
-use Rattle.std.proofs.Common.{◌+◌, ◌≤◌, arith}
+use Rattle.std.proofs.Common.{arith}
 use Rattle.charges.specs.Held.{held}
 use Rattle.charges.proofs.Gathering.{told_within}
 use Rattle.charges.proofs.members.Tuple2Members.gather.Goals as goal

@@ -1,4 +1,4 @@
-use Rattle.std.proofs.Common.{◌≡◌, ℕ, ◌≤◌, List, [], ◌++◌, length, sym, refl, ap, ◌∙◌, ap₂, arith}
+use Rattle.std.proofs.Common.{◌≡◌, ℕ, List, [], ◌++◌, ap, ◌∙◌, ap₂}
 use Rattle.std.proofs.lemmas.Result.{err_from_is_err_and}
 use Rattle.roots.specs.Form.{form}
 use Rattle.roots.specs.Held.{correlation}
@@ -7,7 +7,6 @@ use Rattle.charges.specs.declared.pairs.Side.TheVariants.{Low, High}
 use Rattle.charges.specs.Held.{held, sides}
 use Rattle.charges.specs.Meaning.{Meaning, downs, ups, all_bounds}
 use Rattle.charges.proofs.Gathering.{lows_of, highs_of, large_member, large_itself, not_large}
-use Rattle.charges.proofs.Lists.{bounds_length}
 use Rattle.charges.proofs.module.ModuleCharge.bounds.Goals as goal
 
 -- behind nothing, what is held is what was gathered

@@ -1,4 +1,4 @@
-use Rattle.std.proofs.Common.{◌≡◌, ℕ, List, [], ◌∷◌, ◌++◌, length, take, drop, set, sym, ap, ◌∙◌, ap₂, arith}
+use Rattle.std.proofs.Common.{◌≡◌, ℕ, List, [], ◌∷◌, ◌++◌, length, take, set, sym, ◌∙◌, ap₂, arith}
 use Rattle.std.proofs.lemmas.List.{set_split, drop_all}
 use Rattle.charges.proofs.PairLists.{held_length}
 use Rattle.charges.proofs.pairs.Pairs.and_last.Goals as goal

@@ -1,4 +1,4 @@
-use Rattle.std.proofs.Common.{◌≡◌, ℕ, zero, suc, ◌+◌, ◌<◌, List, [], ◌∷◌, get_or, replicate, refl, arith, rules}
+use Rattle.std.proofs.Common.{ℕ, zero, suc, ◌<◌, get_or, replicate, refl, arith, rules}
 use Rattle.charges.proofs.pairs.Pairs.new.Goals as goal
 
 zeros : (f : ℕ × ℕ → ℕ) → f (0, 0) < 16777216 → (n i : ℕ) → f (get_or (replicate n (0, 0)) i (0, 0)) < 16777216

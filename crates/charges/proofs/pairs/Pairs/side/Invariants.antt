@@ -1,6 +1,6 @@
-use Rattle.std.proofs.Common.{◌≡◌, take, drop}
+use Rattle.std.proofs.Common.{◌≡◌, take}
 use Rattle.roots.specs.Held.{held as amounts_held}
-use Rattle.charges.specs.Held.{held, sides}
+use Rattle.charges.specs.Held.{sides}
 use Rattle.charges.proofs.pairs.Pairs.side.Given as goal
 
 abbrev pub invariant-loop-pair : goal.invariant-loop-pair
