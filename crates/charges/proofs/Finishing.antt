@@ -95,11 +95,6 @@ module _ (e : ℕ → ℕ → ℕ) (sound : Sound e) (t : Beside) (shown members
       o_own : o ≡ bounds (operational t (basic e t shown members))
       o_own = o_is ∙ ap (λ (q : ℕ × ℕ). (operational_down t 1 q.0, operational_up t 1 q.1)) own
 
-      pub stop_operational : (f : ℕ) → (within_limit o ≡ false) × (f ≡ length one + 1) → first_large (limited e t shown members) ≡ Some f
-      stop_operational f bad =
-          ap first_large (sym (append_assoc (shown ++ members) (basic e t shown members ∷ []) _))
-          ∙ stopped _ (operational t (basic e t shown members)) one o stand_one o_own refl _ f (own_terms.1.0.order 1 (omega arith)) bad
-
       module _ (two : List (ℕ × ℕ)) (push_two : (within_limit o ≡ true) × (two ≡ one ++ (o ∷ []))) (s : ℕ × ℕ) (s_is : s ≡ (p.0 + o.0, p.1 + o.1)) where
         stand_two : Stand (((shown ++ members) ++ (basic e t shown members ∷ [])) ++ (operational t (basic e t shown members) ∷ [])) two
         stand_two = took _ (operational t (basic e t shown members)) one o stand_one o_own refl two push_two

@@ -1,6 +1,5 @@
 -- Charges asked one after the other, and their bounds held. Assumes nothing.
-use Rattle.std.proofs.Common.{◌≡◌, ℕ, suc, ◌+◌, ◌<◌, ◌≤◌, true, false, cond, List, [], ◌∷◌, ◌++◌, length, is_ok, Some, None, Ok, Err, Result, refl, ap, ◌∙◌, append_assoc, arith}
-use Rattle.std.proofs.lemmas.List.{length_push}
+use Rattle.std.proofs.Common.{◌≡◌, ℕ, ◌<◌, ◌≤◌, true, false, cond, List, [], ◌∷◌, ◌++◌, length, is_ok, Some, None, Ok, Err, Result, refl, ap, ◌∙◌, arith}
 use Rattle.std.proofs.lemmas.Bool.{or_parts, or_left, or_right, or_from, ltb-false, le-ltb, lt-ltb}
 use Rattle.std.proofs.lemmas.Bool.Decides.{nat_tests}
 use Rattle.charges.specs.declared.pairs.Side.TheVariants.{Low, High}
@@ -9,7 +8,7 @@ use Rattle.charges.specs.Held.{pair_fault, sides}
 use Rattle.roots.specs.Answers.{told}
 use Rattle.roots.proofs.Firsts.{found_within}
 use Rattle.charges.specs.declared.charge.TooLargeAt.{TooLargeAt}
-use Rattle.charges.specs.Meaning.{Meaning, Terms, Gathered, large, some_passes, downs, ups, depths, bounds, all_bounds, first_large, module_of}
+use Rattle.charges.specs.Meaning.{Meaning, Terms, Gathered, large, some_passes, downs, ups, depths, all_bounds, first_large, module_of}
 use Rattle.charges.specs.Quotients.{passes}
 use Rattle.charges.specs.Modules.{none_passes, some_large_passes}
 
@@ -28,29 +27,10 @@ bounds_small m t h =
     let high = ltb-false 16777215 (m.U 1) p.1 in
     (omega (arith, t.order 1 (omega arith)), high)
 
--- one charge, then the others
-module _ (m : Meaning) (ms : List Meaning) where
-  pub none_more : large m ≡ false → first_large ms ≡ None → first_large (m ∷ ms) ≡ None
-  none_more a b = rw (a, b)
-
-  pub bounds_more : (before mid after : List (ℕ × ℕ)) (pair : ℕ × ℕ) → pair ≡ bounds m → mid ≡ before ++ (pair ∷ []) → after ≡ mid ++ all_bounds ms → after ≡ before ++ all_bounds (m ∷ ms)
-  bounds_more before mid after pair is a b =
-      b ∙ ap (λ l. l ++ all_bounds ms) (a ∙ ap (λ p. before ++ (p ∷ [])) is) ∙ append_assoc before (bounds m ∷ []) (all_bounds ms)
-
-  pub first_here : large m ≡ true → first_large (m ∷ ms) ≡ Some 1
-  first_here a = rw a
-
-  pub first_later : (i : ℕ) → large m ≡ false → first_large ms ≡ Some i → first_large (m ∷ ms) ≡ Some (i + 1)
-  first_later i a b = let e : suc i ≡ i + 1 = omega arith in rw (a, b) (ap Some e)
-
 -- the place that is told lies in the list
 pub told_within : (ms : List Meaning) (before after : List (ℕ × ℕ)) (r : Result (Unit {0}) TooLargeAt) (e : TooLargeAt) → Gathered ms before after r → r ≡ Err e → e.0 ≤ length ms
 told_within ms before after (Ok u) e h is = absurd cc
 told_within ms before after (Err f) e h is = let same : f ≡ e = cc in rw (← same) (found_within large ms f.0 h).1
-
--- room for the others
-pub room_more : (before mid : List (ℕ × ℕ)) (pair : ℕ × ℕ) (n : ℕ) → mid ≡ before ++ (pair ∷ []) → length before + (1 + n) ≤ 27 → length mid + n ≤ 27
-room_more before mid pair n e h = omega (arith, ap length e ∙ length_push before pair)
 
 -- the lows and the highs of what charges answer
 pub lows_of : (ms : List Meaning) → sides Low (all_bounds ms) ≡ downs ms 1
