@@ -1,6 +1,6 @@
 -- The 28 figures by a choice of charges, on lines and tables. Assumes nothing.
 use Rattle.std.specs.Prelude.{ℕ, List, Result}
-use Rattle.charges.specs.declared.figures.TooLargeAt.{TooLargeAt}
+use Rattle.charges.specs.declared.charge.TooLargeAt.{TooLargeAt}
 use Rattle.charges.specs.Formula.{limited, figures}
 use Rattle.charges.specs.Meaning.{Meaning}
 use Rattle.charges.specs.Worked.{WorkedOut, Answered}

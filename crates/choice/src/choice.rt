@@ -1,15 +1,14 @@
 ghost use Rattle.std.specs.Prelude.{◌≡◌, ◌+◌, ◌++◌};
 ghost use Rattle.charges.specs.Meaning.{widths};
-ghost use Rattle.lines.specs.Held.{plain};
 ghost use Rattle.lines.specs.Tally.{Tally};
-ghost use Rattle.choice.specs.Basis.{Basis, Chosen, basis, shown as shown_of};
+ghost use Rattle.choice.specs.Basis.{Basis, Chosen, shown as shown_of};
 
+use super::given::Given;
+use super::source::Source;
 use charges::Members;
-use lines::{Line, Totals};
-use tables::Tables;
 
-/// A choice of charges for figures 1 to 23, made from lines, their totals, and tables.
-pub trait Choice {
+/// A choice of charges for figures 1 to 23, made from the totals of lines and a source of that type.
+pub trait Choice<S: Source> {
     /// Figures 1 to 6.
     type Market: Members + Drop;
     /// Figures 7 to 13.
@@ -25,24 +24,24 @@ pub trait Choice {
     ghost meaning: { Chosen };
 
     /// Figures 1 to 6.
-    fn market(lines: &[Line], totals: &Totals, tables: &Tables) -> Self::Market
-        ensures { Tally totals.now (plain lines.now) → Self.Market.Members.each result ≡ meaning.market (basis lines.now tables.now) };
+    fn market(given: &Given<S>) -> Self::Market
+        ensures { (b : Basis) → Tally given.now.totals.now b.lines → S.Source.stands_for given.now.source.now b → Self.Market.Members.each result ≡ meaning.market b };
 
     /// Figures 7 to 13.
-    fn life(lines: &[Line], totals: &Totals, tables: &Tables) -> Self::Life
-        ensures { Tally totals.now (plain lines.now) → Self.Life.Members.each result ≡ meaning.life (basis lines.now tables.now) };
+    fn life(given: &Given<S>) -> Self::Life
+        ensures { (b : Basis) → Tally given.now.totals.now b.lines → S.Source.stands_for given.now.source.now b → Self.Life.Members.each result ≡ meaning.life b };
 
     /// Figures 14 to 16.
-    fn health(lines: &[Line], totals: &Totals, tables: &Tables) -> Self::Health
-        ensures { Tally totals.now (plain lines.now) → Self.Health.Members.each result ≡ meaning.health (basis lines.now tables.now) };
+    fn health(given: &Given<S>) -> Self::Health
+        ensures { (b : Basis) → Tally given.now.totals.now b.lines → S.Source.stands_for given.now.source.now b → Self.Health.Members.each result ≡ meaning.health b };
 
     /// Figures 17 and 18.
-    fn non_life(lines: &[Line], totals: &Totals, tables: &Tables) -> Self::NonLife
-        ensures { Tally totals.now (plain lines.now) → Self.NonLife.Members.each result ≡ meaning.non_life (basis lines.now tables.now) };
+    fn non_life(given: &Given<S>) -> Self::NonLife
+        ensures { (b : Basis) → Tally given.now.totals.now b.lines → S.Source.stands_for given.now.source.now b → Self.NonLife.Members.each result ≡ meaning.non_life b };
 
     /// Figures 19 to 23, the members of the basic SCR.
-    fn basic(lines: &[Line], totals: &Totals, tables: &Tables) -> Self::Basic
-        ensures { Tally totals.now (plain lines.now) → Self.Basic.Members.each result ≡ meaning.basic (basis lines.now tables.now) };
+    fn basic(given: &Given<S>) -> Self::Basic
+        ensures { (b : Basis) → Tally given.now.totals.now b.lines → S.Source.stands_for given.now.source.now b → Self.Basic.Members.each result ≡ meaning.basic b };
 
     // how many charges there are
     ghost shown: { Self.Market.Members.count + Self.Life.Members.count + Self.Health.Members.count + Self.NonLife.Members.count ≡ 18 };

@@ -4,6 +4,10 @@
 mod beside;
 mod choice;
 mod figures;
+mod given;
+mod source;
 
 pub use choice::Choice;
 pub use figures::figures_by;
+pub use given::Given;
+pub use source::Source;

@@ -1,8 +1,10 @@
 -- The lines of business asked one after the other. Assumes nothing.
-use Rattle.std.proofs.Common.{◌≡◌, ℕ, ◌+◌, ◌<◌, ◌≤◌, Bool, true, false, cond, List, [], ◌∷◌, ◌++◌, map, length, get_or, take, Some, None, sym, refl, ap, ◌∙◌, append_assoc, arith, length-append}
+use Rattle.std.proofs.Common.{◌≡◌, ℕ, ◌+◌, ◌<◌, ◌≤◌, Bool, true, false, cond, List, [], ◌∷◌, ◌++◌, map, length, get_or, take, is_ok, Some, None, Result, sym, refl, ap, ◌∙◌, append_assoc, arith, length-append}
 use Rattle.std.proofs.lemmas.List.{length-map, length-take-le, map_more}
 use Rattle.roots.proofs.Firsts.{none_more, found_at}
-use Rattle.charges.specs.Held.{fits}
+use Rattle.charges.specs.declared.pairs.PairFault.{PairFault}
+use Rattle.charges.specs.Held.{pair_fault}
+use Rattle.roots.specs.Answers.{told}
 use Rattle.charges.specs.Leaves.{rate}
 use Rattle.charges.specs.Meaning.{Meaning, Terms, large, bounds, all_bounds, first_large}
 use Rattle.charges.proofs.Gathering.{pushed, bounds_small}
@@ -16,8 +18,8 @@ module _ (ms : List Meaning) (before : List (ℕ × ℕ)) (i : ℕ) (here : i < 
   asked_length old a = ap length a.1 ∙ length-append before (all_bounds (take i ms)) ∙ ap (λ n. length before + n) (length-map (take i ms) bounds ∙ length-take-le i ms (omega arith))
 
   -- one more
-  pub asked_more : (old new : List (ℕ × ℕ)) (pair : ℕ × ℕ) (r : Bool) → Terms m → large m ≡ false → pair ≡ bounds m → length before + length ms ≤ 27
-      → Asked ms before i old → r ≡ fits old pair → new ≡ cond r (old ++ (pair ∷ [])) old → Asked ms before (i + 1) new
+  pub asked_more : (old new : List (ℕ × ℕ)) (pair : ℕ × ℕ) (r : Result (Unit {0}) PairFault) → Terms m → large m ≡ false → pair ≡ bounds m → length before + length ms ≤ 27
+      → Asked ms before i old → r ≡ told (pair_fault old pair) → new ≡ cond (is_ok r) (old ++ (pair ∷ [])) old → Asked ms before (i + 1) new
   asked_more old new pair r terms small is_pair room a answer after =
       let s = bounds_small m terms small in
       let low = ap (λ (p : ℕ × ℕ). p.0) is_pair in

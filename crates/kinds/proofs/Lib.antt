@@ -1,4 +1,3 @@
 mod Asked
 mod Same
-mod LifeLines
 mod ByHand

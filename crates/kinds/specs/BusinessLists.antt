@@ -8,9 +8,8 @@ use Rattle.charges.specs.Leaves.{rate}
 use Rattle.charges.specs.Meaning.{Meaning, widths, module_of}
 use Rattle.lines.specs.declared.fields.Fields.{Fields}
 use Rattle.lines.specs.Totals.{total}
-use Rattle.kinds.specs.declared.premium.PremiumReserve.{PremiumReserve}
 use Rattle.kinds.specs.declared.businesses.Businesses.{Businesses}
-use Rattle.kinds.specs.Means.{businesses, premium_means}
+use Rattle.kinds.specs.Means.{businesses}
 use Rattle.kinds.specs.Ours.{businesses_from}
 use Rattle.kinds.specs.Finer.{total_linear}
 use Rattle.kinds.specs.Matches.{rate_exactly}
@@ -49,8 +48,3 @@ businesses_are (suc n) c (v ∷ vs) ls h at_k =
 -- the charge of one line of business
 pub business_at : (vs : List ℕ) (i : ℕ) (d : Meaning) → i < length vs → slice_index_or (map (λ v. rate v 3 10000) vs) i d ≡ rate (slice_index vs i) 3 10000
 business_at vs i d h = get_or-map (λ v. rate v 3 10000) vs i 0 d h
-
-pub premium_alike : (a b : PremiumReserve) → (premium_means a).width ≡ (premium_means b).width
-unfolding premium_means
-premium_alike a b =
-    ap₂ (λ (n w : ℕ). 1 + ceiling_root n * w) (count_fifteen a.inside.members ∙ sym (count_fifteen b.inside.members)) (widths_fifteen a.inside.members ∙ sym (widths_fifteen b.inside.members))

@@ -1,13 +1,12 @@
 -- The exact charge of each kind of line, and its two results in every unit. Assumes nothing.
-use Rattle.std.specs.Prelude.{ℕ, ◌+◌, ◌-◌, ◌*◌, ◌/◌, max, cond, ◌&&◌, List, [], map, filter, ◌==◌}
+use Rattle.std.specs.Prelude.{ℕ, ◌+◌, ◌-◌, ◌*◌, ◌/◌, max, ◌&&◌, List, [], map, filter, ◌==◌}
 use Rattle.roots.specs.Cells.{identity}
 use Rattle.roots.specs.Form.{sum, form}
 use Rattle.roots.specs.Root.{lower, upper}
-use Rattle.charges.specs.declared.beside.Beside.{Beside}
 use Rattle.charges.specs.Meaning.{Meaning, means}
 use Rattle.charges.specs.Quotients.{over}
 use Rattle.lines.specs.declared.fields.Fields.{Fields}
-use Rattle.lines.specs.Totals.{total, afters, standing}
+use Rattle.lines.specs.Totals.{total, afters}
 
 -- every amount multiplied by k
 abbrev pub finer : ℕ → Fields → Fields
@@ -74,19 +73,3 @@ amounts kind ls = map (λ l. l.first) (filter (λ l. (l.kind == kind) && l.class
 -- 5 and 18: the root of the squares, which is the form with no correlation
 abbrev pub root_of_squares : ℕ → List Fields → Meaning
 root_of_squares kind ls = means (λ k. lower (form identity (amounts kind (in_unit k ls)))) (λ k. upper (form identity (amounts kind (in_unit k ls)))) 1 []
-
--- the earned premiums or the provisions of life, non-life and health from a class on: 3% and twice 2%
-abbrev pub percentages : ℕ → List Fields → ℕ
-percentages class ls = 3 * total 25 class ls + 2 * total 25 (class + 1) ls + 2 * total 25 (class + 2) ls
-
--- how many lines of kinds 7 to 13 stand
-abbrev pub life_lines : List Fields → ℕ
-life_lines ls = sum 7 (λ i. sum 16 (λ c. standing (7 + i) c ls))
-
--- 10,000 units, or 20,000 where a line of kinds 7 to 13 stands
-abbrev pub least_capital : List Fields → ℕ
-least_capital ls = cond (life_lines ls == 0) 10000 20000
-
--- what the formula takes beside its charges: premiums from class 1 on, provisions from class 4 on
-abbrev pub beside : List Fields → Beside
-beside ls = record { premiums = percentages 1 ls; provisions = percentages 4 ls; least = least_capital ls }

@@ -4,9 +4,10 @@ use Rattle.roots.specs.Form.{form}
 use Rattle.roots.specs.Root.{lower, upper}
 use Rattle.charges.specs.declared.beside.Beside.{Beside}
 use Rattle.charges.specs.Formula.{minimum}
+use Rattle.choice.specs.Beside.{beside}
 use Rattle.charges.specs.Meaning.{Meaning, means, module_of}
 use Rattle.lines.specs.declared.fields.Fields.{Fields}
-use Rattle.kinds.specs.Exact.{exactly, interest, global_equity, other_equity, spread, currency, beside}
+use Rattle.kinds.specs.Exact.{exactly, interest, global_equity, other_equity, spread, currency}
 
 abbrev line : ℕ → ℕ → ℕ → ℕ → ℕ → Fields
 line k c r f s = record { kind = k; class = c; rate = r; first = f; second = s }

@@ -1,139 +1,149 @@
-ghost use Rattle.std.specs.Prelude.{◌≡◌, List};
-ghost use Rattle.lines.specs.declared.fields.Fields.{Fields as Given};
+ghost use Rattle.std.specs.Prelude.{◌≡◌};
 ghost use Rattle.lines.specs.Tally.{Tally};
+ghost use Rattle.choice.specs.Basis.{Basis};
 ghost use Rattle.kinds.specs.Means.{equity_means, premium_means, market_parts, market_means, life_parts, life_means, health_parts, health_means, nonlife_parts, nonlife_means, basic_parts};
-ghost use Rattle.kinds.specs.Ours.{equity as equity_of, premium_reserve, market as market_of, lives, health as health_of, non_life, market_module, life_module, health_module, nonlife_module, basic_members};
+ghost use Rattle.kinds.specs.Ours.{equity as equity_of, premium_reserve, market as market_of, lives, health as health_of, non_life as nonlife_of, market_module, life_module, health_module, nonlife_module, basic_members};
 
 use super::businesses::Businesses;
-use super::equity::Equity;
-use super::health::{Health, HealthParts};
 use super::leaves::{currency, fall, interest, part, spread, squares};
-use super::life::{Life, LifeParts};
-use super::market::{Market, MarketParts};
-use super::nonlife::{NonLife, NonLifeParts};
-use super::premium::PremiumReserve;
-use super::tables::Tables;
-use charges::{Parts, Rate};
-use lines::{Kind, Totals};
-
-/// The members of the basic SCR, figures 19 to 23.
-pub type BasicParts = (Market, (Rate, (Life, (Health, (NonLife, ())))));
+use super::modules::{
+    BasicParts, Equity, HealthParts, LifeParts, MarketParts, NonLifeParts, PremiumReserve,
+};
+use charges::{Module, Parts};
+use choice::{Given, Source};
+use lines::Kind;
+use tables::Which;
 
 // 32% of global and 45% of other equity, by their table.
-fn equity(totals: &Totals, tables: &Tables) -> Equity
-    ensures { (ls : List Given) → Tally totals.now ls → equity_means result ≡ equity_of ls tables.now }
+fn equity<S: Source>(given: &Given<S>) -> Equity
+    ensures { (b : Basis) → Tally given.now.totals.now b.lines → S.Source.stands_for given.now.source.now b → equity_means result ≡ equity_of b }
 {
-    let other = part(totals, Kind::Equity, 2, 45, Parts::Hundredths);
-    Equity::new(
-        (
-            part(totals, Kind::Equity, 1, 32, Parts::Hundredths),
-            (other, ()),
-        ),
-        tables.equity,
-    )
+    let global = part(given.totals, Kind::Equity, 1, 32, Parts::Hundredths);
+    let other = part(given.totals, Kind::Equity, 2, 45, Parts::Hundredths);
+    Module::new((global, (other, ())), given.source.table(Which::Equity))
 }
 
 // The fifteen lines of business, by their table.
-fn premium(totals: &Totals, tables: &Tables) -> PremiumReserve
-    ensures { (ls : List Given) → Tally totals.now ls → premium_means result ≡ premium_reserve ls tables.now }
+fn premium<S: Source>(given: &Given<S>) -> PremiumReserve
+    ensures { (b : Basis) → Tally given.now.totals.now b.lines → S.Source.stands_for given.now.source.now b → premium_means result ≡ premium_reserve b }
 {
-    PremiumReserve::new(Businesses::of(totals), tables.business)
+    Module::new(
+        Businesses::of(given.totals),
+        given.source.table(Which::Business),
+    )
 }
 
 /// Figures 1 to 6.
-pub(super) fn market(totals: &Totals, tables: &Tables) -> MarketParts
-    ensures { (ls : List Given) → Tally totals.now ls → market_parts result ≡ market_of ls tables.now }
+pub(super) fn market<S: Source>(given: &Given<S>) -> MarketParts
+    ensures { (b : Basis) → Tally given.now.totals.now b.lines → S.Source.stands_for given.now.source.now b → market_parts result ≡ market_of b }
 {
-    let property = part(totals, Kind::Property, 0, 20, Parts::Hundredths);
-    let last = (squares(totals, Kind::Concentration), (currency(totals), ()));
+    let property = part(given.totals, Kind::Property, 0, 20, Parts::Hundredths);
+    let concentration = squares(given.totals, Kind::Concentration);
+    let last = (concentration, (currency(given.totals), ()));
+    let spread = spread(given.totals);
     (
-        interest(totals),
-        (equity(totals, tables), (property, (spread(totals), last))),
+        interest(given.totals),
+        (equity(given), (property, (spread, last))),
     )
 }
 
 /// Figures 7 to 13.
-pub(super) fn life(totals: &Totals, tables: &Tables) -> LifeParts
-    ensures { (ls : List Given) → Tally totals.now ls → life_parts result ≡ lives ls tables.now }
+pub(super) fn life<S: Source>(given: &Given<S>) -> LifeParts
+    ensures { (b : Basis) → Tally given.now.totals.now b.lines → S.Source.stands_for given.now.source.now b → life_parts result ≡ lives b }
 {
-    let catastrophe = fall(totals, Kind::LifeCatastrophe, 1, 2);
-    let last = (fall(totals, Kind::Revision, 1, 2), (catastrophe, ()));
+    let catastrophe = fall(given.totals, Kind::LifeCatastrophe, 1, 2);
+    let last = (fall(given.totals, Kind::Revision, 1, 2), (catastrophe, ()));
     let middle = (
-        fall(totals, Kind::Lapse, 1, 2),
-        (fall(totals, Kind::LifeExpense, 1, 2), last),
+        fall(given.totals, Kind::Lapse, 1, 2),
+        (fall(given.totals, Kind::LifeExpense, 1, 2), last),
     );
-    let disability = fall(totals, Kind::Disability, 1, 2);
+    let disability = fall(given.totals, Kind::Disability, 1, 2);
     (
-        fall(totals, Kind::Mortality, 1, 2),
-        (fall(totals, Kind::Longevity, 1, 2), (disability, middle)),
+        fall(given.totals, Kind::Mortality, 1, 2),
+        (
+            fall(given.totals, Kind::Longevity, 1, 2),
+            (disability, middle),
+        ),
     )
 }
 
 /// Figures 14 to 16.
-pub(super) fn health(totals: &Totals, tables: &Tables) -> HealthParts
-    ensures { (ls : List Given) → Tally totals.now ls → health_parts result ≡ health_of ls tables.now }
+pub(super) fn health<S: Source>(given: &Given<S>) -> HealthParts
+    ensures { (b : Basis) → Tally given.now.totals.now b.lines → S.Source.stands_for given.now.source.now b → health_parts result ≡ health_of b }
 {
-    let expense = part(totals, Kind::HealthExpense, 0, 1, Parts::TenThousandths);
-    let claims = part(totals, Kind::HealthClaims, 0, 1, Parts::TenThousandths);
-    let accumulation = part(totals, Kind::Accumulation, 0, 1, Parts::TenThousandths);
+    let expense = part(
+        given.totals,
+        Kind::HealthExpense,
+        0,
+        1,
+        Parts::TenThousandths,
+    );
+    let claims = part(
+        given.totals,
+        Kind::HealthClaims,
+        0,
+        1,
+        Parts::TenThousandths,
+    );
+    let accumulation = part(
+        given.totals,
+        Kind::Accumulation,
+        0,
+        1,
+        Parts::TenThousandths,
+    );
     (expense, (claims, (accumulation, ())))
 }
 
 /// Figures 17 and 18.
-pub(super) fn nonlife(totals: &Totals, tables: &Tables) -> NonLifeParts
-    ensures { (ls : List Given) → Tally totals.now ls → nonlife_parts result ≡ non_life ls tables.now }
+pub(super) fn nonlife<S: Source>(given: &Given<S>) -> NonLifeParts
+    ensures { (b : Basis) → Tally given.now.totals.now b.lines → S.Source.stands_for given.now.source.now b → nonlife_parts result ≡ nonlife_of b }
 {
     (
-        premium(totals, tables),
-        (squares(totals, Kind::Catastrophe), ()),
+        premium(given),
+        (squares(given.totals, Kind::Catastrophe), ()),
     )
 }
 
-// The module of these.
-fn market_module(totals: &Totals, tables: &Tables) -> Market
-    ensures { (ls : List Given) → Tally totals.now ls → market_means result ≡ market_module ls tables.now }
+// The module of figures 1 to 6.
+fn market_module<S: Source>(given: &Given<S>) -> Module<MarketParts>
+    ensures { (b : Basis) → Tally given.now.totals.now b.lines → S.Source.stands_for given.now.source.now b → market_means result ≡ market_module b }
 {
-    Market::new(market(totals, tables), tables.market)
+    Module::new(market(given), given.source.table(Which::Market))
 }
 
-// The module of these.
-fn life_module(totals: &Totals, tables: &Tables) -> Life
-    ensures { (ls : List Given) → Tally totals.now ls → life_means result ≡ life_module ls tables.now }
+// The module of figures 7 to 13.
+fn life_module<S: Source>(given: &Given<S>) -> Module<LifeParts>
+    ensures { (b : Basis) → Tally given.now.totals.now b.lines → S.Source.stands_for given.now.source.now b → life_means result ≡ life_module b }
 {
-    Life::new(life(totals, tables), tables.life)
+    Module::new(life(given), given.source.table(Which::Life))
 }
 
-// The module of these.
-fn health_module(totals: &Totals, tables: &Tables) -> Health
-    ensures { (ls : List Given) → Tally totals.now ls → health_means result ≡ health_module ls tables.now }
+// The module of figures 14 to 16.
+fn health_module<S: Source>(given: &Given<S>) -> Module<HealthParts>
+    ensures { (b : Basis) → Tally given.now.totals.now b.lines → S.Source.stands_for given.now.source.now b → health_means result ≡ health_module b }
 {
-    Health::new(health(totals, tables), tables.health)
+    Module::new(health(given), given.source.table(Which::Health))
 }
 
-// The module of these.
-fn nonlife_module(totals: &Totals, tables: &Tables) -> NonLife
-    ensures { (ls : List Given) → Tally totals.now ls → nonlife_means result ≡ nonlife_module ls tables.now }
+// The module of figures 17 and 18.
+fn nonlife_module<S: Source>(given: &Given<S>) -> Module<NonLifeParts>
+    ensures { (b : Basis) → Tally given.now.totals.now b.lines → S.Source.stands_for given.now.source.now b → nonlife_means result ≡ nonlife_module b }
 {
-    NonLife::new(nonlife(totals, tables), tables.non_life)
+    Module::new(nonlife(given), given.source.table(Which::NonLife))
 }
 
 /// Figures 19 to 23.
-pub(super) fn basic(totals: &Totals, tables: &Tables) -> BasicParts
-    ensures { (ls : List Given) → Tally totals.now ls → basic_parts result ≡ basic_members ls tables.now }
+pub(super) fn basic<S: Source>(given: &Given<S>) -> BasicParts
+    ensures { (b : Basis) → Tally given.now.totals.now b.lines → S.Source.stands_for given.now.source.now b → basic_parts result ≡ basic_members b }
 {
     let default = part(
-        totals,
+        given.totals,
         Kind::CounterpartyDefault,
         0,
         1,
         Parts::TenThousandths,
     );
-    let last = (
-        health_module(totals, tables),
-        (nonlife_module(totals, tables), ()),
-    );
-    (
-        market_module(totals, tables),
-        (default, (life_module(totals, tables), last)),
-    )
+    let last = (health_module(given), (nonlife_module(given), ()));
+    (market_module(given), (default, (life_module(given), last)))
 }

@@ -7,18 +7,16 @@ ghost use Rattle.kinds.specs.BusinessLists.{count_fifteen, widths_alike};
 ghost use Rattle.kinds.specs.Kept.{businesses_terms};
 
 use super::Businesses;
-use charges::{Charge, Members, Pairs, Parts, Rate};
+use charges::{Charge, Members, Pairs, Parts, Rate, TooLargeAt};
 use lines::{Kind, Totals};
+use std::array;
 
 impl Businesses {
     /// The totals of the lines of business.
     pub fn of(totals: &Totals) -> Businesses
         ensures { (ls : List Given) → Tally totals.now ls → businesses result ≡ all_businesses ls }
     {
-        let mut volumes = [0; 15];
-        for i in 0..15 {
-            volumes[i] = totals.first(Kind::PremiumReserve, i as u8 + 1);
-        }
+        let volumes = array::from_fn(|i| totals.first(Kind::PremiumReserve, i as u8 + 1));
         Businesses { volumes }
     }
 }
@@ -36,11 +34,11 @@ impl Members for Businesses {
 
     ghost alike = { λ a b. widths_alike a b };
 
-    fn gather(&self, pairs: &mut Pairs) -> Result<(), usize> {
-        for i in 0..15 {
-            let Ok(pair) = Rate::new(self.volumes[i], 3, Parts::TenThousandths).bounds() else {
-                return Err(i + 1);
-            };
+    fn gather(&self, pairs: &mut Pairs) -> Result<(), TooLargeAt> {
+        for (i, volume) in self.volumes.iter().enumerate() {
+            let pair = Rate::new(*volume, 3, Parts::TenThousandths)
+                .bounds()
+                .map_err(|_| TooLargeAt(i as u8 + 1))?;
             let _ = pairs.push(pair);
         }
         Ok(())

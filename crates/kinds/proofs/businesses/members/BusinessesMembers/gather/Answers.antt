@@ -1,37 +1,24 @@
-use Rattle.std.proofs.Common.{◌≡◌, ◌++◌, sym, refl, ap, ◌∙◌, append-nil, arith}
-use Rattle.std.proofs.lemmas.List.{take_all}
-use Rattle.charges.specs.Held.{held}
-use Rattle.charges.specs.Leaves.{rated}
-use Rattle.charges.specs.Meaning.{all_bounds, first_large}
+use Rattle.std.proofs.Common.{rules, ◌≡◌, List, ℕ, ◌+◌, ◌-◌, ◌*◌, ◌<◌, ◌≤◌, length, ◌/◌, ◌%◌, Bool, true, false, nat_eq, nat_lt, [], ◌∷◌, ◌++◌, slice_index_or, slice_set, bit_and, bit_or, Fits, w8, w32, w64, Bor, MutBor}
+use Rattle.lines.specs.declared.fields.Fields.{Fields as Given}
+use Rattle.lines.specs.Tally.{Tally}
 use Rattle.kinds.specs.Means.{businesses}
-use Rattle.kinds.proofs.Asked.{asked_more, asked_large}
-use Rattle.kinds.specs.Kept.{rated_terms}
-use Rattle.kinds.specs.BusinessLists.{business_at, count_fifteen}
+use Rattle.kinds.specs.Ours.{all_businesses}
+use Rattle.kinds.specs.BusinessLists.{count_fifteen, widths_alike}
+use Rattle.kinds.specs.Kept.{businesses_terms}
 use Rattle.kinds.proofs.businesses.members.BusinessesMembers.gather.Goals as goal
 
+-- src/businesses/members.rt:38:9
 pub loop-i-init : goal.loop-i-init
-loop-i-init c = (refl, sym (append-nil (held c.args.pairs.now)))
+loop-i-init c = ?
 
+-- src/businesses/members.rt:39:24
+pub returns-in_err-pair : goal.returns-in_err-pair
+returns-in_err-pair c = ?
+
+-- src/businesses/members.rt:38:9
 pub loop-i-preserved : goal.loop-i-preserved
-loop-i-preserved c =
-    let told = c.in-Ok.ensures in
-    let b = c.args.self.now in
-    let m = rated c.new.result in
-    let is = business_at b.volumes c.loop-i.i m (omega (arith, b.full, c.loop-i-test.true)) ∙ sym c.new.ensures in
-    asked_more (businesses b) (held c.args.pairs.now) c.loop-i.i (omega (arith, count_fifteen b, c.loop-i-test.true)) m is
-    (held c.loop-i.pairs) (held c.push.new.self) c.in-Ok.pair c.push.result (rated_terms c.new.result) told.0 told.1 (omega (arith, count_fifteen b, c.requires.room)) c.loop-i.invariant c.push.ensures.answer c.push.ensures.after
+loop-i-preserved c = ?
 
-pub returns-in_default : goal.returns-in_default
-returns-in_default c =
-    let b = c.args.self.now in
-    let m = rated c.new.result in
-    let is = business_at b.volumes c.loop-i.i m (omega (arith, b.full, c.loop-i-test.true)) ∙ sym c.new.ensures in
-    asked_large (businesses b) (held c.args.pairs.now) c.loop-i.i (omega (arith, count_fifteen b, c.loop-i-test.true)) m is (held c.loop-i.pairs) c.loop-i.invariant c.in_default.ensures
-
+-- src/businesses/members.rt:37:5
 pub returns : goal.returns
-returns c =
-    let b = c.args.self.now in
-    let all = take_all c.loop-i.i (businesses b) (omega (arith, count_fifteen b, c.loop-i-test.false)) in (
-      ap first_large (sym all) ∙ c.loop-i.invariant.0,
-      c.loop-i.invariant.1 ∙ ap (λ l. held c.args.pairs.now ++ all_bounds l) all,
-    )
+returns c = ?

@@ -1,0 +1,52 @@
+ghost use Rattle.std.specs.Prelude.{◌≡◌};
+ghost use Rattle.std.proofs.Common.{refl, lit≤};
+ghost use Rattle.kinds.specs.Ours.{ours};
+
+use super::made::{basic, health, life, market, nonlife};
+use super::modules::{BasicParts, HealthParts, LifeParts, MarketParts, NonLifeParts};
+use choice::{Choice, Given, Source};
+
+/// Our own charges.
+pub struct Ours;
+
+impl<S: Source> Choice<S> for Ours {
+    type Market = MarketParts;
+
+    type Life = LifeParts;
+
+    type Health = HealthParts;
+
+    type NonLife = NonLifeParts;
+
+    type Basic = BasicParts;
+
+    ghost meaning = { ours };
+
+    ghost shown = { refl };
+
+    ghost five = { refl };
+
+    ghost proper = { ((tt, ((lit≤ tt, lit≤ tt, (tt, (tt, tt))), (tt, (tt, (tt, (tt, tt)))))), (tt, (tt, (tt, (tt, (tt, (tt, (tt, tt))))))), (tt, (tt, (tt, tt))), ((lit≤ tt, lit≤ tt, tt), (tt, tt)), ((lit≤ tt, lit≤ tt, (tt, ((lit≤ tt, lit≤ tt, (tt, (tt, tt))), (tt, (tt, (tt, (tt, tt))))))), (tt, ((lit≤ tt, lit≤ tt, (tt, (tt, (tt, (tt, (tt, (tt, (tt, tt)))))))), ((lit≤ tt, lit≤ tt, (tt, (tt, (tt, tt)))), ((lit≤ tt, lit≤ tt, ((lit≤ tt, lit≤ tt, tt), (tt, tt))), tt)))))) };
+
+    ghost alike = { λ b c. refl };
+
+    fn market(given: &Given<S>) -> MarketParts {
+        market(given)
+    }
+
+    fn life(given: &Given<S>) -> LifeParts {
+        life(given)
+    }
+
+    fn health(given: &Given<S>) -> HealthParts {
+        health(given)
+    }
+
+    fn non_life(given: &Given<S>) -> NonLifeParts {
+        nonlife(given)
+    }
+
+    fn basic(given: &Given<S>) -> BasicParts {
+        basic(given)
+    }
+}
