@@ -1,8 +1,23 @@
 -- The table that is filled from the entries above its diagonal. Assumes nothing.
 use Rattle.std.proofs.Common.{◌≡◌, ℕ, zero, suc, ◌+◌, ◌-◌, ◌*◌, ◌/◌, ◌%◌, ◌<◌, ◌≤◌, Bool, true, false, cond, ◌&&◌, eqb, ltb, ◌≢◌, List, [], length, get_or, set, sym, refl, ap, ◌∙◌, subst, ap₂, arith, get_or-set_other, get_or-set_same, below_more}
+use native.Mathlib.Decide.{dec_le}
 use Rattle.std.proofs.lemmas.List.{get_or_past}
 use Rattle.std.proofs.lemmas.Bool.Decides.{nat_tests}
+use Rattle.std.specs.Array.{IsFromFnResultFrom}
+use Rattle.std.specs.Fn.{Called}
+use denote.Param.Members.{Mut}
 use Rattle.roots.specs.Cells.{identity, entry, before, above, filled}
+
+-- an array made by a closure that gives h at each place
+module _ {F : Type 0} (g : Mut F (ℕ × Unit {0}) ℕ) (h : ℕ → ℕ) (f : F) (gives : (j y : ℕ) (q : F) → Called g f (j, tt) y q → (q ≡ f) × (y ≡ h j)) where
+  pub made_by : (ys : List ℕ) (i n : ℕ) → IsFromFnResultFrom g f ys i n → (k : ℕ) → i ≤ k → k < i + n → get_or ys k 0 ≡ h k
+  made_by ys i zero r k a b = absurd (let z : ⊥ = omega arith in z)
+  made_by ys i (suc n) (q, y, e, c, r) k a b =
+      let s = gives i y q c in
+      elim (dec_le (i + 1) k) [
+        | yes p ↦ made_by ys (i + 1) n (subst (λ v. IsFromFnResultFrom g v ys (i + 1) n) s.0 r) k p (omega arith)
+        | no p ↦ (let same : k ≡ i = omega arith in rw same (e.1 0 ∙ s.1))
+      ]
 
 before_twice : (n r : ℕ) → r ≤ n → 2 * before n r + r * (r + 1) ≡ 2 * (r * n)
 before_twice n zero h = omega arith

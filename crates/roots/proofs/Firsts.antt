@@ -1,7 +1,9 @@
 -- The first element that passes a test, one place further. Assumes nothing.
-use Rattle.std.proofs.Common.{◌≡◌, ℕ, zero, suc, ◌+◌, ◌<◌, ◌≤◌, Bool, true, false, cond, ltb, ◌⊎◌, List, [], ◌∷◌, ◌++◌, length, get_or, take, Some, None, Option, sym, refl, ap, inl, inr, ⊎_elim, add-one, arith}
+use Rattle.std.proofs.Common.{◌≡◌, ℕ, zero, suc, ◌+◌, ◌<◌, ◌≤◌, Bool, true, false, cond, not, ltb, ◌⊎◌, List, [], ◌∷◌, ◌++◌, length, get_or, take, Some, None, Option, sym, refl, ap, inl, inr, ⊎_elim, add-one, arith}
 use Rattle.std.proofs.lemmas.Bool.{ltb-false}
-use Rattle.std.specs.Option.{option_map}
+use Rattle.std.specs.Option.{option_map, MatchOption}
+use Rattle.std.proofs.lemmas.Bool.Decides.{nat_tests}
+use Rattle.std.specs.List.{position_or_len}
 use Rattle.roots.specs.First.{first, first_above}
 
 -- nothing passes in a list: not its first element, and none of the rest
@@ -28,6 +30,25 @@ module _ {X : Type 0} (p : X → Bool) (d : X) where
       let s = none_split (p x) (first p (take i xs)) h in
       let more : suc (i + 1) ≡ suc i + 1 = omega arith in
       rw (s.0, found_at xs i (omega arith) s.1 e, more)
+
+first_by : {X : Type 0} (p : X → Bool) (xs : List X) → first p xs ≡ cond (ltb (position_or_len p xs) (length xs)) (Some (position_or_len p xs + 1)) None
+first_by p [] = refl
+first_by p (x ∷ xs) = let e = first_by p xs in step (p x) (first p xs) (position_or_len p xs) (length xs) e
+  where
+    step : (t : Bool) (o : Option ℕ) (i n : ℕ) → o ≡ cond (ltb i n) (Some (i + 1)) None → cond t (Some 1) (option_map suc o) ≡ cond (ltb (cond (not t) (1 + i) 0) (suc n)) (Some (cond (not t) (1 + i) 0 + 1)) None
+    step true o i n e = grind (arith, nat_tests)
+    step false o i n e = go (ltb i n) refl
+      where
+        go : (b : Bool) → ltb i n ≡ b → option_map suc o ≡ cond (ltb (1 + i) (suc n)) (Some (1 + i + 1)) None
+        go true t = grind (arith, nat_tests, e)
+        go false t = grind (arith, nat_tests, e)
+
+-- by what `position` answers, one place further
+pub first_position : {X : Type 0} (p : X → Bool) (xs : List X) (r m : Option ℕ) → r ≡ cond (ltb (position_or_len p xs) (length xs)) (Some (position_or_len p xs)) None → MatchOption r (m ≡ None) (λ i. m ≡ Some (i + 1)) → m ≡ first p xs
+first_position p xs r m e h = rw (first_by p xs) (go (ltb (position_or_len p xs) (length xs)) (position_or_len p xs) r e h)
+  where
+    go : (b : Bool) (n : ℕ) (r : Option ℕ) → r ≡ cond b (Some n) None → MatchOption r (m ≡ None) (λ i. m ≡ Some (i + 1)) → m ≡ cond b (Some (n + 1)) None
+    go b n r e h = grind arith
 
 pub none_above : (limit : ℕ) (xs : List ℕ) → first_above limit xs ≡ None → (i : ℕ) → get_or xs i 0 ≤ limit
 none_above limit [] h i = omega arith

@@ -64,11 +64,11 @@ impl Table {
         ensures value { result ≡ sum r (λ c. correlation self.now r c * at xs.now c) }
         ensures bound { result ≤ r * (100 * 2 ^ 24) }
     {
-        let mut total: u64 = 0;
-        for c in 0..r {
-            total += self.cells[r * 16 + c] as u64 * xs[c] as u64;
-        }
-        total
+        self.cells[r * 16..r * 16 + r]
+            .iter()
+            .zip(xs)
+            .map(|(e, x)| *e as u64 * *x as u64)
+            .sum()
     }
 
     /// The sum over all ordered pairs r, c of entry(r, c) × x(r) × x(c).
@@ -78,8 +78,8 @@ impl Table {
     {
         let xs = amounts.as_slice();
         let mut total: u64 = 0;
-        for r in 0..xs.len() {
-            let x = xs[r] as u64;
+        for (r, x) in xs.iter().enumerate() {
+            let x = *x as u64;
             total += x * (100 * x + 2 * self.before_diagonal(xs, r));
         }
         total
