@@ -8,9 +8,9 @@ use Rattle.roots.specs.First.{first, first_above}
 
 -- nothing passes in a list: not its first element, and none of the rest
 pub none_split : (b : Bool) (o : Option ℕ) → cond b (Some 1) (option_map suc o) ≡ None → (b ≡ false) × (o ≡ None)
-none_split true o h = absurd (let z : ◌≡◌ {A = ℕ} 0 1 = cc in let y : ⊥ = omega arith in y)
+none_split true o h = grind arith
 none_split false None h = (refl, refl)
-none_split false (Some x) h = absurd (let z : ◌≡◌ {A = ℕ} 0 1 = cc in let y : ⊥ = omega arith in y)
+none_split false (Some x) h = grind arith
 
 module _ {X : Type 0} (p : X → Bool) (d : X) where
   pub none_more : (xs : List X) (i : ℕ) → i < length xs → first p (take i xs) ≡ None → p (get_or xs i d) ≡ false → first p (take (i + 1) xs) ≡ None
@@ -24,7 +24,7 @@ module _ {X : Type 0} (p : X → Bool) (d : X) where
           rw (s.0, go xs i (omega arith) s.1 e)
 
   pub found_at : (xs : List X) (i : ℕ) → i < length xs → first p (take i xs) ≡ None → p (get_or xs i d) ≡ true → first p xs ≡ Some (i + 1)
-  found_at [] i b h e = absurd (let z : ⊥ = omega arith in z)
+  found_at [] i b h e = grind arith
   found_at (x ∷ xs) zero b h e = rw e
   found_at (x ∷ xs) (suc i) b h e =
       let s = none_split (p x) (first p (take i xs)) h in
@@ -58,13 +58,13 @@ none_above limit (x ∷ xs) h (suc i) = none_above limit xs (none_split (ltb lim
 -- a place that was found, by the first element and the rest
 pub some_split : (b : Bool) (o : Option ℕ) (i : ℕ) → cond b (Some 1) (option_map suc o) ≡ Some i → ((b ≡ true) × (i ≡ 1)) ⊎ ((b ≡ false) × ((j : ℕ) × (o ≡ Some j) × (i ≡ suc j)))
 some_split true o i h = inl (refl, cc)
-some_split false None i h = absurd (let z : ◌≡◌ {A = ℕ} 0 1 = cc in let y : ⊥ = omega arith in y)
+some_split false None i h = grind arith
 some_split false (Some j) i h = inr (refl, (j, refl, cc))
 
 module _ {X : Type 0} (p : X → Bool) where
   -- a place lies within the list
   pub found_within : (xs : List X) (i : ℕ) → first p xs ≡ Some i → (1 ≤ i) × (i ≤ length xs)
-  found_within [] i h = absurd (let z : ◌≡◌ {A = ℕ} 0 1 = cc in let y : ⊥ = omega arith in y)
+  found_within [] i h = grind arith
   found_within (x ∷ xs) i h =
       ⊎_elim
       (λ s. (omega (arith, s.1), omega (arith, s.1)))

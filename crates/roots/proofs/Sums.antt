@@ -35,7 +35,7 @@ sum_mul (suc n) k f = omega (arith, sum_mul n k f)
 
 -- one place of a sum
 pub sum_at : (n i : ℕ) (f : ℕ → ℕ) → i < n → f i ≤ sum n f
-sum_at zero i f h = absurd (let z : ⊥ = omega arith in z)
+sum_at zero i f h = omega arith
 sum_at (suc n) i f h =
     elim (dec_le n i) [ yes p ↦ (let e : i ≡ n = omega arith in rw e (omega arith)) | no p ↦ omega (arith, sum_at n i f (omega arith)) ]
 
@@ -47,7 +47,7 @@ sum_front (suc n) f = omega (arith, sum_front n f)
 -- two lists multiplied place by place
 pub sum_zip : (ys zs : List ℕ) → length ys ≤ length zs → sum_by (λ p. p.0 * p.1) (zip ys zs) ≡ sum (length ys) (λ i. at ys i * at zs i)
 sum_zip [] zs h = refl
-sum_zip (y ∷ ys) [] h = absurd (let no : ⊥ = omega arith in no)
+sum_zip (y ∷ ys) [] h = omega arith
 sum_zip (y ∷ ys) (z ∷ zs) h = omega (arith, sum_by-cons (λ p. p.0 * p.1) (y, z) (zip ys zs), sum_zip ys zs (omega arith), sum_front (length ys) (λ i. at (y ∷ ys) i * at (z ∷ zs) i))
 
 two_squares : (a b : ℕ) → 2 * (a * b) ≤ a * a + b * b

@@ -38,8 +38,8 @@ row_sum t r xs h a b =
 pub row_bound : (t : Table) (r : ℕ) (xs : List ℕ) → ((i : ℕ) → at xs i < 16777216) → sum r (λ c. correlation t r c * at xs c) ≤ r * (100 * 2 ^ 24)
 row_bound t r xs s =
     sum_most r (100 * 2 ^ 24) _ (λ c l.
-        let most : at xs c ≤ 16777216 = omega (arith, s c) in
-        mul-le-mul (t.small r c) most)
+    let most : at xs c ≤ 16777216 = omega (arith, s c) in
+    mul-le-mul (t.small r c) most)
 
 -- what one member adds to the form
 pub member_bound : (x b r : ℕ) → x < 16777216 → b ≤ r * (100 * 2 ^ 24) → x * (100 * x + 2 * b) ≤ (2 * r + 1) * (100 * 2 ^ 48)

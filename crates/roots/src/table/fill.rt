@@ -27,7 +27,7 @@ fn entry_above(size: Size, given: &[u8], r: usize, c: usize) -> u8
         return 0;
     }
     let place = entries_before(size, r) + (c - (r + 1));
-    if place < given.len() { given[place] } else { 0 }
+    given.get(place).copied().unwrap_or(0)
 }
 
 fn entry_at(size: Size, given: &[u8], r: usize, c: usize) -> u8

@@ -1,4 +1,4 @@
-use Rattle.std.proofs.Common.{ℕ, ◌≡◌, ◌/◌, ◌%◌, rules, tests, arith}
+use Rattle.std.proofs.Common.{◌/◌, ◌%◌, rules, tests, arith}
 use Rattle.roots.specs.Cells.{filled}
 use Rattle.roots.proofs.Fill.{made_by}
 use Rattle.roots.proofs.table.fill.cells.Goals as goal
