@@ -1,8 +1,22 @@
 -- The table that is filled from the entries above its diagonal. Assumes nothing.
-use Rattle.std.proofs.Common.{◌≡◌, ℕ, zero, suc, ◌+◌, ◌-◌, ◌*◌, ◌/◌, ◌%◌, ◌<◌, ◌≤◌, Bool, true, false, cond, ◌&&◌, eqb, ltb, ◌≢◌, List, [], length, get_or, set, sym, refl, ap, ◌∙◌, subst, ap₂, arith, get_or-set_other, get_or-set_same, below_more}
-use Rattle.std.proofs.lemmas.List.{get_or_past}
+use Rattle.std.proofs.Common.{◌≡◌, ℕ, zero, suc, ◌+◌, ◌-◌, ◌*◌, ◌/◌, ◌%◌, ◌<◌, ◌≤◌, Bool, true, false, cond, ◌&&◌, ltb, List, get_or, sym, refl, ap, ◌∙◌, subst, ap₂, arith}
+use native.Mathlib.Decide.{dec_le}
 use Rattle.std.proofs.lemmas.Bool.Decides.{nat_tests}
+use Rattle.std.specs.Array.{IsFromFnResultFrom}
+use Rattle.std.specs.Fn.{Called}
+use denote.Param.Members.{Mut}
 use Rattle.roots.specs.Cells.{identity, entry, before, above, filled}
+
+-- an array made by a closure that gives h at each place
+module _ {F : Type 0} (g : Mut F (ℕ × Unit {0}) ℕ) (h : ℕ → ℕ) (f : F) (gives : (j y : ℕ) (q : F) → Called g f (j, tt) y q → (q ≡ f) × (y ≡ h j)) where
+  pub made_by : (ys : List ℕ) (i n : ℕ) → IsFromFnResultFrom g f ys i n → (k : ℕ) → i ≤ k → k < i + n → get_or ys k 0 ≡ h k
+  made_by ys i zero r k a b = omega arith
+  made_by ys i (suc n) (q, y, e, c, r) k a b =
+      let s = gives i y q c in
+      elim (dec_le (i + 1) k) [
+        | yes p ↦ made_by ys (i + 1) n (subst (λ v. IsFromFnResultFrom g v ys (i + 1) n) s.0 r) k p (omega arith)
+        | no p ↦ (let same : k ≡ i = omega arith in rw same (e.1 0 ∙ s.1))
+      ]
 
 before_twice : (n r : ℕ) → r ≤ n → 2 * before n r + r * (r + 1) ≡ 2 * (r * n)
 before_twice n zero h = omega arith
@@ -31,9 +45,6 @@ module _ (n : ℕ) (given : List ℕ) where
   pub filled_outside : (r c : ℕ) → n ≤ c → filled n given r c ≡ identity r c
   filled_outside r c h = grind (arith, nat_tests)
 
-  pub above_past : (r c : ℕ) → length given ≤ before n r + (c - suc r) → 0 ≡ above n given r c
-  above_past r c h = let e = get_or_past given (before n r + (c - suc r)) 0 h in grind (arith, nat_tests)
-
   -- cells that were filled one after the other are the table
   pub entry_filled : (cells : List ℕ) → n ≤ 16 → ((k : ℕ) → k < 256 → get_or cells k 0 ≡ filled n given (k / 16) (k % 16)) → (r c : ℕ) → entry cells r c ≡ filled n given r c
   entry_filled cells few h r c = go (ltb r 16 && ltb c 16) refl
@@ -60,7 +71,3 @@ module _ (n : ℕ) (given : List ℕ) where
         λ r c. subst (λ v. v ≤ 100) (sym (e r c)) (filled_small small r c),
         λ r c past. e r c ∙ filled_outside r c past,
       )
-
-  pub cells_next : (cells : List ℕ) (i v : ℕ) → i < length cells → v ≡ filled n given (i / 16) (i % 16) → ((k : ℕ) → k < i → get_or cells k 0 ≡ filled n given (k / 16) (k % 16)) → (k : ℕ) → k < i + 1 → get_or (set cells i v) k 0 ≡ filled n given (k / 16) (k % 16)
-  cells_next cells i v lt e h =
-      below_more _ _ (λ k b. let ne : k ≢ i = omega arith in rw get_or-set_other (h k b)) (rw get_or-set_same e)

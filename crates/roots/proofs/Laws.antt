@@ -1,12 +1,12 @@
 -- The roots of forms under a sound table keep the laws. Assumes nothing.
-use Rattle.std.proofs.Common.{◌≡◌, ℕ, zero, suc, ◌+◌, ◌*◌, ◌<◌, ◌≤◌, List, [], ◌∷◌, length, sym, refl, ap, mul-le-mul_right, mul-le-mul, arith}
+use Rattle.std.proofs.Common.{◌≡◌, ℕ, zero, suc, ◌+◌, ◌*◌, ◌<◌, ◌≤◌, List, [], ◌∷◌, length, refl, ap, mul-le-mul_right, mul-le-mul, arith}
 use native.Mathlib.Decide.{dec_le}
 use Rattle.std.proofs.lemmas.List.{get_or_past}
 use Rattle.roots.specs.Form.{sum, pairs, at, added, form, Sound}
 use Rattle.roots.specs.Root.{lower, upper, ceiling_root}
 use Rattle.roots.specs.Laws.{Each, Wider, Lawful}
 use Rattle.roots.proofs.RootLaws.{square_le, le_from_squares, lower_next, lower_greatest, lower_le_upper, upper_least, upper_next, upper_exact, exact_when_equal, lower_rises, upper_rises, lower_finer, upper_finer, ceiling}
-use Rattle.roots.proofs.Sums.{sum_at, sum_le, sum_mul, sum_front, square_sum, pairs_eq, pairs_le, pairs_add, pairs_add_right, pairs_mul, pairs_most}
+use Rattle.roots.proofs.Sums.{sum_at, sum_mul, sum_front, square_sum, pairs_eq, pairs_le, pairs_add, pairs_add_right, pairs_mul, pairs_most}
 
 -- the form over a number of members that is known otherwise
 form_at : (e : ℕ → ℕ → ℕ) (n : ℕ) (xs : List ℕ) → length xs ≡ n → form e xs ≡ pairs e n (at xs) (at xs)
@@ -60,7 +60,7 @@ total_most e s n q h x =
 -- there are no members, or q is at least 1
 times_root : (n q : ℕ) (w : ℕ → ℕ) → n ≤ q * q → sum n w ≤ q * sum n w
 times_root zero q w h = omega arith
-times_root (suc n) zero w h = absurd (let z : ⊥ = omega arith in z)
+times_root (suc n) zero w h = omega arith
 times_root (suc n) (suc q) w h = omega arith
 
 -- amounts y that pass x by at most w: the form grows by 2 × 100 × S × W + 100 × W² at most

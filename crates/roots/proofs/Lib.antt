@@ -4,4 +4,3 @@ pub mod Laws
 pub mod Tables
 mod Fill
 pub mod Firsts
-mod Held

@@ -2,14 +2,15 @@
 use Rattle.std.proofs.Common.{◌≡◌, ℕ, zero, suc, ◌+◌, ◌*◌, ◌/◌, ◌<◌, ◌≤◌, Bool, true, false, cond, leb, ◌≢◌, ◌⊎◌, refl, ⊎_elim, mul-le-mul, mul-le-mul_left, arith, leb-false, leb-true}
 use native.Mathlib.Decide.{dec_le}
 use Rattle.std.proofs.lemmas.Bool.{cases_eq}
-use Rattle.roots.specs.Root.{root_by, lower, upper, Lower, Upper, RootsOfAll, ceiling_root, Ceiling}
+use Rattle.std.proofs.lemmas.Bool.Decides.{nat_tests}
+use Rattle.roots.specs.Root.{root_by, lower, upper, RootsOfAll, ceiling_root, Ceiling}
 
 -- squares keep the order, both ways
 pub square_le : (a b : ℕ) → a ≤ b → a * a ≤ b * b
 square_le a b h = mul-le-mul h h
 
 pub le_from_squares : (a b : ℕ) → a * a < (b + 1) * (b + 1) → a ≤ b
-le_from_squares a b h = elim (dec_le a b) [ yes p ↦ p | no p ↦ absurd (let k = square_le (b + 1) a (omega arith) in let z : ⊥ = omega arith in z) ]
+le_from_squares a b h = elim (dec_le a b) [ yes p ↦ p | no p ↦ (let k = square_le (b + 1) a (omega arith) in omega arith) ]
 
 -- n is the whole root of f, rounded down
 abbrev Root : ℕ → ℕ → Type 0
@@ -49,19 +50,11 @@ lower_unique f n lo hi =
 -- the upper root by the lower one
 pub upper_exact : (f : ℕ) → 100 * (lower f * lower f) ≡ f → upper f ≡ lower f
 unfolding upper
-upper_exact f e = go (leb f (100 * (lower f * lower f))) refl
-  where
-    go : (b : Bool) → leb f (100 * (lower f * lower f)) ≡ b → cond b (lower f) (lower f + 1) ≡ lower f
-    go true t = refl
-    go false t = absurd (let k = leb-false _ _ t in let z : ⊥ = omega arith in z)
+upper_exact f e = grind (arith, nat_tests)
 
 pub upper_inexact : (f : ℕ) → 100 * (lower f * lower f) ≢ f → upper f ≡ lower f + 1
 unfolding upper
-upper_inexact f ne = go (leb f (100 * (lower f * lower f))) refl
-  where
-    go : (b : Bool) → leb f (100 * (lower f * lower f)) ≡ b → cond b (lower f) (lower f + 1) ≡ lower f + 1
-    go true t = absurd (ne (let k = leb-true _ _ t in let l = lower_le f in omega arith))
-    go false t = refl
+upper_inexact f ne = let l = lower_le f in grind (arith, nat_tests)
 
 -- the two ways of the upper root
 exactly : (f : ℕ) → (100 * (lower f * lower f) ≡ f) ⊎ (100 * (lower f * lower f) ≢ f)
@@ -82,7 +75,7 @@ upper_least f m h =
     (exactly f)
   where
     strict : (a b : ℕ) → a * a < b * b → a + 1 ≤ b
-    strict a b l = elim (dec_le (a + 1) b) [ yes p ↦ p | no p ↦ absurd (let k = square_le b a (omega arith) in let z : ⊥ = omega arith in z) ]
+    strict a b l = elim (dec_le (a + 1) b) [ yes p ↦ p | no p ↦ (let k = square_le b a (omega arith) in omega arith) ]
 
 pub roots_of_all : RootsOfAll
 roots_of_all f = (record { within = lower_le f; greatest = lower_greatest f }, record { reaches = upper_ge f; least = upper_least f })

@@ -1,7 +1,9 @@
 -- Sums over the first places, and the sums over pairs that a form is made of. Assumes nothing.
-use Rattle.std.proofs.Common.{◌≡◌, ℕ, zero, suc, ◌+◌, ◌-◌, ◌*◌, ◌<◌, ◌≤◌, refl, ap, ◌∙◌, mul-le-mul_right, mul-le-mul, mul-le-mul_left, add-one, arith}
+use Rattle.std.proofs.Common.{◌≡◌, ℕ, zero, suc, ◌+◌, ◌-◌, ◌*◌, ◌<◌, ◌≤◌, List, [], ◌∷◌, length, refl, ap, ◌∙◌, mul-le-mul_right, mul-le-mul, mul-le-mul_left, add-one, arith}
 use native.Mathlib.Decide.{dec_le}
-use Rattle.roots.specs.Form.{sum, pairs, Sound}
+use Rattle.std.proofs.lemmas.List.Sums.{sum_by-cons}
+use Rattle.std.specs.List.{sum_by, zip}
+use Rattle.roots.specs.Form.{sum, at, pairs, Sound}
 
 -- the step of a loop that adds up
 pub sum_next : (n t v : ℕ) (f : ℕ → ℕ) → t ≡ sum n f → v ≡ f n → t + v ≡ sum (n + 1) f
@@ -10,6 +12,14 @@ sum_next n t v f a b = let more : sum (n + 1) f ≡ sum n f + f n = rw add-one i
 pub sum_eq : (n : ℕ) (f g : ℕ → ℕ) → ((i : ℕ) → f i ≡ g i) → sum n f ≡ sum n g
 sum_eq zero f g h = refl
 sum_eq (suc n) f g h = omega (arith, sum_eq n f g h, h n)
+
+pub sum_below : (n : ℕ) (f g : ℕ → ℕ) → ((i : ℕ) → i < n → f i ≡ g i) → sum n f ≡ sum n g
+sum_below zero f g h = refl
+sum_below (suc n) f g h = omega (arith, sum_below n f g (λ i b. h i (omega arith)), h n (omega arith))
+
+pub sum_most : (n top : ℕ) (f : ℕ → ℕ) → ((i : ℕ) → i < n → f i ≤ top) → sum n f ≤ n * top
+sum_most zero top f h = omega arith
+sum_most (suc n) top f h = omega (arith, sum_most n top f (λ i b. h i (omega arith)), h n (omega arith))
 
 pub sum_le : (n : ℕ) (f g : ℕ → ℕ) → ((i : ℕ) → f i ≤ g i) → sum n f ≤ sum n g
 sum_le zero f g h = omega arith
@@ -25,7 +35,7 @@ sum_mul (suc n) k f = omega (arith, sum_mul n k f)
 
 -- one place of a sum
 pub sum_at : (n i : ℕ) (f : ℕ → ℕ) → i < n → f i ≤ sum n f
-sum_at zero i f h = absurd (let z : ⊥ = omega arith in z)
+sum_at zero i f h = omega arith
 sum_at (suc n) i f h =
     elim (dec_le n i) [ yes p ↦ (let e : i ≡ n = omega arith in rw e (omega arith)) | no p ↦ omega (arith, sum_at n i f (omega arith)) ]
 
@@ -33,6 +43,12 @@ sum_at (suc n) i f h =
 pub sum_front : (n : ℕ) (f : ℕ → ℕ) → sum (suc n) f ≡ f 0 + sum n (λ i. f (suc i))
 sum_front zero f = omega arith
 sum_front (suc n) f = omega (arith, sum_front n f)
+
+-- two lists multiplied place by place
+pub sum_zip : (ys zs : List ℕ) → length ys ≤ length zs → sum_by (λ p. p.0 * p.1) (zip ys zs) ≡ sum (length ys) (λ i. at ys i * at zs i)
+sum_zip [] zs h = refl
+sum_zip (y ∷ ys) [] h = omega arith
+sum_zip (y ∷ ys) (z ∷ zs) h = omega (arith, sum_by-cons (λ p. p.0 * p.1) (y, z) (zip ys zs), sum_zip ys zs (omega arith), sum_front (length ys) (λ i. at (y ∷ ys) i * at (z ∷ zs) i))
 
 two_squares : (a b : ℕ) → 2 * (a * b) ≤ a * a + b * b
 two_squares a b = elim (dec_le a b) [ yes p ↦ above a (b - a) b (omega arith) | no p ↦ below b (a - b) a (omega arith) ]

@@ -3,6 +3,7 @@ ghost use Rattle.std.specs.Prelude.{ℕ, ◌<◌, ◌≤◌, slice_index};
 /// At most 16 amounts in order, each at most 16,777,215.
 #[derive(Clone, Copy)]
 pub struct Amounts {
+    // an array with its length, as `Amounts` is `Copy` and an `ArrayVec` is not
     values: [u32; 16],
     len: usize,
     ghost few: { len ≤ 16 },

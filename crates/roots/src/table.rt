@@ -8,7 +8,8 @@ use super::size::Size;
 #[derive(Clone, Copy)]
 pub struct Table {
     size: Size,
-    // 16 rows of 16; past the members stands the identity
+    // 16 rows of 16 in one array, since no proof was found over an array of arrays;
+    // past the members stands the identity
     cells: [u8; 256],
     ghost symmetric: { ((r c : ℕ) → entry cells r c ≡ entry cells c r) },
     ghost diagonal: { ((r : ℕ) → entry cells r r ≡ 100) },

@@ -4,6 +4,7 @@ ghost use Rattle.roots.specs.Cells.{before, above, filled};
 ghost use Rattle.roots.specs.Held.{members_of};
 
 use super::super::size::Size;
+use std::array;
 
 // The highest correlation, in hundredths.
 const HIGHEST: u8 = 100;
@@ -26,7 +27,7 @@ fn entry_above(size: Size, given: &[u8], r: usize, c: usize) -> u8
         return 0;
     }
     let place = entries_before(size, r) + (c - (r + 1));
-    if place < given.len() { given[place] } else { 0 }
+    given.get(place).copied().unwrap_or(0)
 }
 
 fn entry_at(size: Size, given: &[u8], r: usize, c: usize) -> u8
@@ -45,21 +46,12 @@ fn entry_at(size: Size, given: &[u8], r: usize, c: usize) -> u8
 pub(super) fn cells(size: Size, given: &[u8]) -> [u8; 256]
     ensures { (k : ℕ) → k < 256 → slice_index result k ≡ filled (members_of size) given.now (k / 16) (k % 16) }
 {
-    let mut cells = [0; 256];
-    for k in 0..256 {
-        cells[k] = entry_at(size, given, k / 16, k % 16);
-    }
-    cells
+    array::from_fn(|k| entry_at(size, given, k / 16, k % 16))
 }
 
 // The position, from 1, of the first entry above 100.
 pub(super) fn first_above_100(given: &[u8]) -> Option<usize>
     ensures { result ≡ first_above 100 given.now }
 {
-    for (i, v) in given.iter().enumerate() {
-        if *v > HIGHEST {
-            return Some(i + 1);
-        }
-    }
-    None
+    given.iter().position(|v| *v > HIGHEST).map(|i| i + 1)
 }

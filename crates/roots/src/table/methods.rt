@@ -57,18 +57,16 @@ impl Table {
     }
 
     // The sum over the columns c before `r` of entry(r, c) × x(c).
-    fn before_diagonal(&self, xs: &[u32], r: usize) -> u64
-        requires few { length xs.now ≤ 16 }
-        requires small { (i : ℕ) → at xs.now i < 16777216 }
-        requires within { r < length xs.now }
-        ensures value { result ≡ sum r (λ c. correlation self.now r c * at xs.now c) }
+    fn before_diagonal(&self, amounts: &Amounts, r: usize) -> u64
+        requires within { r < length (held amounts.now) }
+        ensures value { result ≡ sum r (λ c. correlation self.now r c * at (held amounts.now) c) }
         ensures bound { result ≤ r * (100 * 2 ^ 24) }
     {
-        let mut total: u64 = 0;
-        for c in 0..r {
-            total += self.cells[r * 16 + c] as u64 * xs[c] as u64;
-        }
-        total
+        self.cells[r * 16..r * 16 + r]
+            .iter()
+            .zip(amounts.as_slice())
+            .map(|(e, x)| *e as u64 * *x as u64)
+            .sum()
     }
 
     /// The sum over all ordered pairs r, c of entry(r, c) × x(r) × x(c).
@@ -76,11 +74,10 @@ impl Table {
         ensures value { result ≡ form_of (correlation self.now) (held amounts.now) }
         ensures bound { result < 2 ^ 63 }
     {
-        let xs = amounts.as_slice();
         let mut total: u64 = 0;
-        for r in 0..xs.len() {
-            let x = xs[r] as u64;
-            total += x * (100 * x + 2 * self.before_diagonal(xs, r));
+        for (r, x) in amounts.as_slice().iter().enumerate() {
+            let x = *x as u64;
+            total += x * (100 * x + 2 * self.before_diagonal(amounts, r));
         }
         total
     }

@@ -1,9 +1,7 @@
-use Rattle.std.proofs.Common.{arith, length-set}
-use Rattle.roots.proofs.Fill.{cells_next}
+use Rattle.std.proofs.Common.{◌/◌, ◌%◌, rules, tests, arith}
+use Rattle.roots.specs.Cells.{filled}
+use Rattle.roots.proofs.Fill.{made_by}
 use Rattle.roots.proofs.table.fill.cells.Goals as goal
 
-pub loop-k-preserved : goal.loop-k-preserved
-loop-k-preserved c = (
-  simp length-set c.loop-k.invariant.0,
-  cells_next c.args.size.count c.args.given.now c.loop-k.cells c.loop-k.k c.entry_at.result (omega arith) c.entry_at.ensures c.loop-k.invariant.1,
-)
+pub returns : goal.returns
+returns c = λ k b. made_by _ (λ j. filled c.args.size.count c.args.given.now (j / 16) (j % 16)) _ (λ j y q r. search (rules, tests)) c.from_fn.result 0 256 c.from_fn.ensures.items.each k (omega arith) b
