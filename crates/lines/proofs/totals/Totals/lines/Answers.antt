@@ -1,7 +1,5 @@
 use Rattle.std.proofs.Common.{◌<◌, ◌^◌, ◌≡◌, ◌∙◌, sum_by, arith, rules}
-use Rattle.roots.specs.Form.{sum}
 use Rattle.lines.specs.declared.sums.Sum.{Sum}
-use Rattle.lines.specs.Cells.{cell}
 use Rattle.lines.specs.Kinds.{number}
 use Rattle.lines.proofs.Cells.{row_is}
 use Rattle.lines.proofs.totals.Totals.lines.Goals as goal

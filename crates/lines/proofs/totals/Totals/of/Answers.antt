@@ -1,6 +1,5 @@
 use Rattle.std.proofs.Common.{◌^◌, ◌≤◌, length, refl, arith}
 use Rattle.lines.specs.declared.sums.Sum.{Sum}
-use Rattle.lines.specs.declared.fields.Fields.{Fields}
 use Rattle.lines.specs.Weights.{weight}
 use Rattle.lines.proofs.Adds.{adds_all, sum_more, row_le, plain_row, room}
 use Rattle.lines.proofs.Bounds.{within, weight_small}
