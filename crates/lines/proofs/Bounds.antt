@@ -1,11 +1,13 @@
 -- The fields of a line that keeps its rules are within bounds, whatever its kind. Assumes nothing.
-use Rattle.std.proofs.Common.{◌≡◌, ℕ, ◌*◌, ◌^◌, ◌<◌, ◌≤◌, Bool, true, false, not, ◌&&◌, ◌||◌, eqb, leb, ◌⊎◌, List, [], ◌∷◌, is_some, Some, None, Option, sym, refl, ap, ◌∙◌, inl, inr, arith}
+use Rattle.std.proofs.Common.{◌≡◌, ℕ, ◌*◌, ◌^◌, ◌<◌, ◌≤◌, Bool, true, false, not, ◌&&◌, ◌||◌, eqb, leb, ◌⊎◌, List, [], ◌∷◌, is_some, Some, None, Ok, Option, sym, refl, ap, ◌∙◌, inl, inr, arith}
+use Rattle.std.specs.Option.{ok_or}
 use Rattle.std.proofs.lemmas.Nat.{mul-le}
 use Rattle.std.proofs.lemmas.Bool.{cases_Bool, cond-true, cond-false, cond_both, and_parts, or_cases, eqb-true}
 use Rattle.std.proofs.lemmas.Bool.Decides.{nat_tests}
 use Rattle.lines.specs.declared.fields.Fields.{Fields}
 use Rattle.lines.specs.declared.kind.Kind.{Kind}
 use Rattle.lines.specs.declared.kind.Rule.{Rule}
+use Rattle.lines.specs.declared.kind.UnknownKind.{UnknownKind}
 use Rattle.lines.specs.declared.line.Line.{Line}
 use Rattle.lines.specs.Kinds.{number, kinds, among, numbered, rule}
 use Rattle.lines.specs.Rules.{breaks, breaks_of}
@@ -26,6 +28,17 @@ found p (x ∷ ks) n k all h =
           (ap p (sym same) ∙ (and_parts (p x) (every p ks) all).0, eqb-true n (number x) e ∙ ap number same)
       | inr e ↦ found p ks n k (and_parts (p x) (every p ks) all).1 (sym (cond-false _ _ _ e) ∙ h)
     ]
+
+-- the kind with a number has that number
+pub number_of : (n : ℕ) (k : Kind) (e : UnknownKind) → Ok k ≡ ok_or (numbered n) e → number k ≡ n
+unfolding numbered
+number_of n k e h = go (among kinds n) refl h
+  where
+    go : (o : Option Kind) → among kinds n ≡ o → Ok k ≡ ok_or o e → number k ≡ n
+    go None same h = cc
+    go (Some j) same h =
+        let one : j ≡ k = cc in
+        sym (found (λ _. true) kinds n k refl (same ∙ ap Some one)).1
 
 -- what the number and the rule of every kind keep to
 abbrev moderate : ℕ → Rule → Bool

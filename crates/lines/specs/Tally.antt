@@ -9,13 +9,13 @@ use Rattle.lines.specs.Totals.{total, afters, standing}
 
 -- what totals hold of a kind and a class
 abbrev pub first_of : Totals → ℕ → ℕ → ℕ
-first_of t kind class = cell t.firsts kind class
+first_of t kind class = (cell t.sums kind class).first
 
 abbrev pub second_of : Totals → ℕ → ℕ → ℕ
-second_of t kind class = cell t.seconds kind class
+second_of t kind class = (cell t.sums kind class).second
 
 abbrev pub count_of : Totals → ℕ → ℕ → ℕ
-count_of t kind class = cell t.counts kind class
+count_of t kind class = (cell t.sums kind class).count
 
 pub record Tally (t : Totals) (ls : List Fields) : Type 0 where
   pub firsts : (kind class : ℕ) → first_of t kind class ≡ total kind class ls

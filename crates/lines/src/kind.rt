@@ -1,29 +1,30 @@
-ghost use Rattle.std.specs.Prelude.{◌≡◌};
-ghost use Rattle.lines.specs.Kinds.{number, kinds, among, numbered, rule, limits};
+ghost use Rattle.std.specs.Prelude.{◌≡◌, ok_or};
+ghost use Rattle.lines.specs.Kinds.{number, numbered, rule, limits};
+ghost use Rattle.lines.specs.Weights.{square};
 
-/// The kind of a line: the figure that it feeds.
+/// The kind of a line, by the number of the figure that it feeds.
 #[derive(Clone, Copy, PartialEq, Eq, Debug)]
 pub enum Kind {
-    Interest,
-    Equity,
-    Property,
-    Spread,
-    Concentration,
-    Currency,
-    Mortality,
-    Longevity,
-    Disability,
-    Lapse,
-    LifeExpense,
-    Revision,
-    LifeCatastrophe,
-    HealthExpense,
-    HealthClaims,
-    Accumulation,
-    PremiumReserve,
-    Catastrophe,
-    CounterpartyDefault,
-    Operational,
+    Interest = 1,
+    Equity = 2,
+    Property = 3,
+    Spread = 4,
+    Concentration = 5,
+    Currency = 6,
+    Mortality = 7,
+    Longevity = 8,
+    Disability = 9,
+    Lapse = 10,
+    LifeExpense = 11,
+    Revision = 12,
+    LifeCatastrophe = 13,
+    HealthExpense = 14,
+    HealthClaims = 15,
+    Accumulation = 16,
+    PremiumReserve = 17,
+    Catastrophe = 18,
+    CounterpartyDefault = 20,
+    Operational = 25,
 }
 
 /// What a line of a kind may hold: no class if `classes` is 0, else one from 1 to `classes`;
@@ -53,68 +54,57 @@ fn limits(classes: u8, rate: u16, first: u32, second: u32) -> Rule
     }
 }
 
-fn kind_of(n: u8) -> Option<Kind>
-    ensures { result ≡ among kinds n }
-{
-    match n {
-        1 => Some(Kind::Interest),
-        2 => Some(Kind::Equity),
-        3 => Some(Kind::Property),
-        4 => Some(Kind::Spread),
-        5 => Some(Kind::Concentration),
-        6 => Some(Kind::Currency),
-        7 => Some(Kind::Mortality),
-        8 => Some(Kind::Longevity),
-        9 => Some(Kind::Disability),
-        10 => Some(Kind::Lapse),
-        11 => Some(Kind::LifeExpense),
-        12 => Some(Kind::Revision),
-        13 => Some(Kind::LifeCatastrophe),
-        14 => Some(Kind::HealthExpense),
-        15 => Some(Kind::HealthClaims),
-        16 => Some(Kind::Accumulation),
-        17 => Some(Kind::PremiumReserve),
-        18 => Some(Kind::Catastrophe),
-        20 => Some(Kind::CounterpartyDefault),
-        25 => Some(Kind::Operational),
-        _ => None,
+/// A number that no kind has.
+#[derive(Clone, Copy, PartialEq, Eq, Debug)]
+pub struct UnknownKind(pub u8);
+
+impl TryFrom<u8> for Kind {
+    type Error = UnknownKind;
+
+    ghost try_from_gives = { λ n r. r ≡ ok_or (numbered n) (record { 0 = n }) };
+
+    #[tactic(auto, unfolding(crate::specs::Kinds::numbered))]
+    fn try_from(n: u8) -> Result<Self, UnknownKind> {
+        match n {
+            1 => Ok(Kind::Interest),
+            2 => Ok(Kind::Equity),
+            3 => Ok(Kind::Property),
+            4 => Ok(Kind::Spread),
+            5 => Ok(Kind::Concentration),
+            6 => Ok(Kind::Currency),
+            7 => Ok(Kind::Mortality),
+            8 => Ok(Kind::Longevity),
+            9 => Ok(Kind::Disability),
+            10 => Ok(Kind::Lapse),
+            11 => Ok(Kind::LifeExpense),
+            12 => Ok(Kind::Revision),
+            13 => Ok(Kind::LifeCatastrophe),
+            14 => Ok(Kind::HealthExpense),
+            15 => Ok(Kind::HealthClaims),
+            16 => Ok(Kind::Accumulation),
+            17 => Ok(Kind::PremiumReserve),
+            18 => Ok(Kind::Catastrophe),
+            20 => Ok(Kind::CounterpartyDefault),
+            25 => Ok(Kind::Operational),
+            _ => Err(UnknownKind(n)),
+        }
+    }
+}
+
+impl From<Kind> for u8 {
+    ghost from_gives = { λ kind n. n ≡ number kind };
+
+    fn from(kind: Kind) -> u8 {
+        kind as u8
     }
 }
 
 impl Kind {
-    /// The kind with that number.
-    pub fn numbered(n: u8) -> Option<Kind>
-        ensures { result ≡ numbered n }
+    /// Whether its amounts are squared.
+    pub fn is_squared(self) -> bool
+        ensures { result ≡ square (number self) }
     {
-        kind_of(n)
-    }
-
-    /// Its number.
-    pub fn number(self) -> u8
-        ensures { result ≡ number self }
-    {
-        match self {
-            Kind::Interest => 1,
-            Kind::Equity => 2,
-            Kind::Property => 3,
-            Kind::Spread => 4,
-            Kind::Concentration => 5,
-            Kind::Currency => 6,
-            Kind::Mortality => 7,
-            Kind::Longevity => 8,
-            Kind::Disability => 9,
-            Kind::Lapse => 10,
-            Kind::LifeExpense => 11,
-            Kind::Revision => 12,
-            Kind::LifeCatastrophe => 13,
-            Kind::HealthExpense => 14,
-            Kind::HealthClaims => 15,
-            Kind::Accumulation => 16,
-            Kind::PremiumReserve => 17,
-            Kind::Catastrophe => 18,
-            Kind::CounterpartyDefault => 20,
-            Kind::Operational => 25,
-        }
+        matches!(self, Kind::Concentration | Kind::Catastrophe)
     }
 
     /// What its lines may hold.

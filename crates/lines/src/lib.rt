@@ -10,6 +10,6 @@ mod totals;
 
 pub use fault::LineFault;
 pub use fields::Fields;
-pub use kind::{Kind, Rule};
+pub use kind::{Kind, Rule, UnknownKind};
 pub use line::Line;
 pub use totals::Totals;

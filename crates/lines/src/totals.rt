@@ -8,13 +8,11 @@ use super::sums::Sums;
 /// how many lines there are.
 #[derive(Clone, Copy)]
 pub struct Totals {
-    firsts: Sums,
-    seconds: Sums,
-    counts: Sums,
-    ghost weighty: { ((k : ℕ) → sum 16 (λ c. cell firsts k c) ≤ 2 ^ 63) },
-    ghost small: { ((k : ℕ) → sum 16 (λ c. cell seconds k c) ≤ 2 ^ 40) },
-    ghost few: { ((k : ℕ) → sum 16 (λ c. cell counts k c) ≤ 128) },
-    ghost plainly: { (sum 16 (λ c. cell firsts 25 c) ≤ 2 ^ 40) },
+    sums: Sums,
+    ghost weighty: { ((k : ℕ) → sum 16 (λ c. (cell sums k c).first) ≤ 2 ^ 63) },
+    ghost small: { ((k : ℕ) → sum 16 (λ c. (cell sums k c).second) ≤ 2 ^ 40) },
+    ghost few: { ((k : ℕ) → sum 16 (λ c. (cell sums k c).count) ≤ 128) },
+    ghost plainly: { (sum 16 (λ c. (cell sums 25 c).first) ≤ 2 ^ 40) },
 }
 
 mod methods;

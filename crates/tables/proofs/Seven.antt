@@ -1,5 +1,5 @@
 -- There are seven tables, each of its size. Assumes nothing.
-use Rattle.std.proofs.Common.{◌≡◌, ℕ, ◌<◌, List, map, length, get_or, sym, ap, ◌∙◌}
+use Rattle.std.proofs.Common.{◌≡◌, ℕ, ◌<◌, length, get_or, sym, ap, ◌∙◌}
 use Rattle.std.proofs.lemmas.List.{length-map, get_or-map}
 use Rattle.roots.specs.declared.table.Table.{Table}
 use Rattle.roots.specs.Held.{table_members}

@@ -1,10 +1,8 @@
 -- A table replaced whole: the refusal that applies, and what stands after. Assumes nothing.
-use Rattle.std.specs.Prelude.{◌≡◌, ℕ, ◌+◌, ◌-◌, ◌<◌, cond, List, length, Some, None, Ok, Err, Option, Result, ◌==◌, slice_set}
+use Rattle.std.specs.Prelude.{ℕ, ◌-◌, cond, List, length, Some, None, Ok, Err, Option, Result, ◌==◌, slice_set}
 use Rattle.std.specs.Option.{option_map}
 use Rattle.roots.specs.Cells.{entry_count, filled}
 use Rattle.roots.specs.First.{first_above}
-use Rattle.roots.specs.declared.size.Size.{Size}
-use Rattle.roots.specs.Held.{members_of}
 use Rattle.tables.specs.declared.fault.EntriesFault.{EntriesFault}
 use Rattle.tables.specs.Faults.{shown}
 use Rattle.tables.specs.Sizes.{size, members}
@@ -37,8 +35,3 @@ after (Some e) before new = before
 
 abbrev pub replaced : List (ℕ → ℕ → ℕ) → ℕ → List ℕ → List (ℕ → ℕ → ℕ)
 replaced ts table given = after (refusal table given) ts (slice_set ts (table - 1) (filled (size table) given))
-
--- the place, from 0, of the table with a number, and its size
-abbrev pub Found : ℕ → Option (ℕ × Size) → Type 0
-Found table None = members table ≡ None
-Found table (Some f) = (f.0 + 1 ≡ table) × (f.0 < 7) × (members table ≡ Some (members_of f.1)) × (members_of f.1 ≡ size table)

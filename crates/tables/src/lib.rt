@@ -7,4 +7,4 @@ mod which;
 
 pub use fault::EntriesFault;
 pub use tables::Tables;
-pub use which::Which;
+pub use which::{UnknownTable, Which};

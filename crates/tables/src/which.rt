@@ -1,56 +1,52 @@
-ghost use Rattle.std.specs.Prelude.{◌≡◌, ◌≤◌};
+ghost use Rattle.std.specs.Prelude.{◌≡◌, ◌≤◌, ok_or};
 ghost use Rattle.tables.specs.Numbers.{number, numbered};
 
 /// One of the seven tables, by the module that it is for.
-#[derive(Clone, Copy)]
+#[derive(Clone, Copy, PartialEq, Eq, Debug)]
 pub enum Which {
-    /// 1: market, default, life, health, non-life.
-    Basic,
-    /// 2: interest, equity, property, spread, concentration, currency.
-    Market,
-    /// 3: global, other.
-    Equity,
-    /// 4: mortality, longevity, disability, lapse, expense, revision, catastrophe.
-    Life,
-    /// 5: expense, claims, accumulation.
-    Health,
-    /// 6: premium and reserve, catastrophe.
-    NonLife,
-    /// 7: fifteen lines of business.
-    Business,
+    /// Of market, default, life, health, non-life.
+    Basic = 1,
+    /// Of interest, equity, property, spread, concentration, currency.
+    Market = 2,
+    /// Of global, other.
+    Equity = 3,
+    /// Of mortality, longevity, disability, lapse, expense, revision, catastrophe.
+    Life = 4,
+    /// Of expense, claims, accumulation.
+    Health = 5,
+    /// Of premium and reserve, catastrophe.
+    NonLife = 6,
+    /// Of fifteen lines of business.
+    Business = 7,
 }
 
-impl Which {
-    /// The table with that number.
-    pub fn numbered(n: u8) -> Option<Which>
-        ensures { result ≡ numbered n }
-    {
+/// A number that no table has.
+#[derive(Clone, Copy, PartialEq, Eq, Debug)]
+pub struct UnknownTable(pub u8);
+
+impl TryFrom<u8> for Which {
+    type Error = UnknownTable;
+
+    ghost try_from_gives = { λ n r. r ≡ ok_or (numbered n) (record { 0 = n }) };
+
+    fn try_from(n: u8) -> Result<Self, UnknownTable> {
         match n {
-            1 => Some(Which::Basic),
-            2 => Some(Which::Market),
-            3 => Some(Which::Equity),
-            4 => Some(Which::Life),
-            5 => Some(Which::Health),
-            6 => Some(Which::NonLife),
-            7 => Some(Which::Business),
-            _ => None,
+            1 => Ok(Which::Basic),
+            2 => Ok(Which::Market),
+            3 => Ok(Which::Equity),
+            4 => Ok(Which::Life),
+            5 => Ok(Which::Health),
+            6 => Ok(Which::NonLife),
+            7 => Ok(Which::Business),
+            _ => Err(UnknownTable(n)),
         }
     }
+}
 
-    /// Its number, from 1 to 7.
-    pub fn number(self) -> u8
-        ensures value { result ≡ number self }
-        ensures least { 1 ≤ result }
-        ensures most { result ≤ 7 }
-    {
-        match self {
-            Which::Basic => 1,
-            Which::Market => 2,
-            Which::Equity => 3,
-            Which::Life => 4,
-            Which::Health => 5,
-            Which::NonLife => 6,
-            Which::Business => 7,
-        }
+impl From<Which> for u8 {
+    ghost from_gives = { λ which n. (n ≡ number which) × (1 ≤ n) × (n ≤ 7) };
+
+    fn from(which: Which) -> u8 {
+        which as u8
     }
 }

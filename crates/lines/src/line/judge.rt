@@ -1,5 +1,6 @@
 ghost use Rattle.std.specs.Prelude.{◌≡◌};
 ghost use Rattle.lines.specs.Held.{fields_of};
+ghost use Rattle.lines.specs.Kinds.{number};
 ghost use Rattle.lines.specs.Judged.{told, judged};
 ghost use Rattle.lines.specs.Rules.{allows};
 
@@ -23,9 +24,7 @@ impl Line {
     pub fn new(fields: Fields, number: usize) -> Result<Line, LineFault>
         ensures { told result ≡ judged fields number }
     {
-        let Some(kind) = Kind::numbered(fields.kind) else {
-            return Err(LineFault::Kind(number));
-        };
+        let kind = Kind::try_from(fields.kind).map_err(|_| LineFault::Kind(number))?;
         let rule = kind.rule();
         if !allows(rule, fields.class) {
             return Err(LineFault::Class(number));
@@ -40,6 +39,13 @@ impl Line {
             return Err(LineFault::Second(number));
         }
         Ok(Line { fields })
+    }
+
+    /// Its kind.
+    pub fn kind(&self) -> Kind
+        ensures { number result ≡ (fields_of self.now).kind }
+    {
+        Kind::try_from(self.fields.kind).unwrap()
     }
 
     /// Its fields.

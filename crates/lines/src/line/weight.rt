@@ -2,9 +2,10 @@ ghost use Rattle.std.specs.Prelude.{◌≡◌};
 ghost use Rattle.lines.specs.Held.{fields_of};
 ghost use Rattle.lines.specs.Weights.{capped, factor, span, weight};
 
-use super::super::fields::Fields;
+use super::super::kind::Kind;
 use super::Line;
 
+// A class has no enum: what its number means depends on the kind.
 // A spread line's duration in hundredths of a year, capped for the lower classes and for unrated.
 fn capped(class: u8, duration: u16) -> u16
     ensures { result ≡ capped class duration }
@@ -32,24 +33,28 @@ fn factor(class: u8) -> u32
     }
 }
 
-// What the first amount is multiplied by.
-fn span(fields: &Fields) -> u32
-    ensures { result ≡ span fields.now }
-{
-    match fields.kind {
-        4 => u32::from(capped(fields.class, fields.rate)) * factor(fields.class),
-        5 | 18 => fields.first,
-        14..=17 | 20 => u32::from(fields.rate),
-        _ => 1,
-    }
-}
-
 impl Line {
+    // What the first amount is multiplied by.
+    fn span(&self) -> u32
+        ensures { result ≡ span (fields_of self.now) }
+    {
+        let fields = self.fields();
+        match self.kind() {
+            Kind::Spread => u32::from(capped(fields.class, fields.rate)) * factor(fields.class),
+            Kind::Concentration | Kind::Catastrophe => fields.first,
+            Kind::HealthExpense
+            | Kind::HealthClaims
+            | Kind::Accumulation
+            | Kind::PremiumReserve
+            | Kind::CounterpartyDefault => u32::from(fields.rate),
+            _ => 1,
+        }
+    }
+
     /// What it adds to the total of its kind and class.
     pub fn weight(&self) -> u64
         ensures { result ≡ weight (fields_of self.now) }
     {
-        let fields = self.fields();
-        u64::from(fields.first) * u64::from(span(&fields))
+        u64::from(self.fields().first) * u64::from(self.span())
     }
 }

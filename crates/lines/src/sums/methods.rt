@@ -1,55 +1,63 @@
-ghost use Rattle.std.specs.Prelude.{◌≡◌, ℕ, ◌+◌, ◌*◌, ◌^◌, ◌<◌, ◌&&◌, if◌then◌else◌, ◌==◌, nat_eq};
-ghost use Rattle.roots.specs.Form.{sum};
-ghost use Rattle.lines.specs.Cells.{cell};
+ghost use Rattle.std.specs.Prelude.{◌≡◌, ℕ, ◌+◌, ◌*◌, ◌^◌, ◌<◌, ◌&&◌, if◌then◌else◌, ◌==◌, length, slice_index_or};
+ghost use Rattle.lines.specs.Cells.{none, cell, more};
+ghost use Rattle.lines.specs.Held.{fields_of};
+ghost use Rattle.lines.specs.Kinds.{number};
+ghost use Rattle.lines.specs.Weights.{weight};
 
-use super::Sums;
-
-const KINDS: u8 = 32;
+use super::super::kind::Kind;
+use super::super::line::Line;
+use super::{Sum, Sums};
 
 const CLASSES: u8 = 16;
 
-fn slot(kind: u8, class: u8) -> usize
-    ensures { result ≡ kind * 16 + class }
+// Where the cells of a kind begin.
+fn start(kind: Kind) -> usize
+    ensures value { result ≡ number kind * 16 }
+    ensures inside { result + 16 < 512 }
 {
-    usize::from(kind) * 16 + usize::from(class)
+    usize::from(u8::from(kind)) * usize::from(CLASSES)
 }
 
 impl Sums {
     pub(crate) fn new() -> Sums
-        ensures { (k c : ℕ) → cell result k c ≡ 0 }
+        ensures { (k c : ℕ) → cell result k c ≡ none }
     {
-        Sums { cells: [0; 512] }
+        Sums {
+            cells: [Sum::default(); 512],
+        }
     }
 
-    // The sum of a kind and class, 0 where there is no such cell.
-    pub(crate) fn at(&self, kind: u8, class: u8) -> u64
-        ensures { result ≡ cell self.now kind class }
+    // The sums of a kind and class, 0 where there is no such class.
+    pub(crate) fn at(&self, kind: Kind, class: u8) -> Sum
+        ensures { result ≡ cell self.now (number kind) class }
     {
-        if kind < KINDS && class < CLASSES {
-            self.cells[slot(kind, class)]
+        if class < CLASSES {
+            self.cells[start(kind) + usize::from(class)]
         } else {
-            0
+            Sum::default()
         }
     }
 
-    // The sums of all classes of a kind, added.
-    pub(crate) fn row(&self, kind: u8) -> u64
-        requires { sum 16 (λ c. cell self.now kind c) < 2 ^ 64 }
-        ensures { result ≡ sum 16 (λ c. cell self.now kind c) }
+    // The sums of a kind, one for each class.
+    pub(crate) fn row(&self, kind: Kind) -> &[Sum]
+        ensures all { length result.now ≡ 16 }
+        ensures each { (c : ℕ) → c < 16 → slice_index_or result.now c none ≡ cell self.now (number kind) c }
     {
-        let mut all = 0;
-        for class in 0..CLASSES {
-            all += self.at(kind, class);
-        }
-        all
+        let start = start(kind);
+        &self.cells[start..start + usize::from(CLASSES)]
     }
 
-    pub(crate) fn add(&mut self, kind: u8, class: u8, amount: u64)
-        requires kinds { kind < 32 }
-        requires classes { class < 16 }
-        requires room { cell self.old kind class + amount < 2 ^ 64 }
-        ensures { (k c : ℕ) → cell self.new k c ≡ cell self.old k c + (if nat_eq kind k && class == c then amount else 0) }
+    // A line of few enough.
+    pub(crate) fn add(&mut self, line: &Line)
+        requires first { (cell self.old (fields_of line.now).kind (fields_of line.now).class).first + weight (fields_of line.now) < 2 ^ 64 }
+        requires second { (cell self.old (fields_of line.now).kind (fields_of line.now).class).second + (fields_of line.now).second < 2 ^ 64 }
+        requires count { (cell self.old (fields_of line.now).kind (fields_of line.now).class).count + 1 < 2 ^ 64 }
+        ensures { (k c : ℕ) → cell self.new k c ≡ (if (fields_of line.now).kind == k && (fields_of line.now).class == c then more (cell self.old k c) (fields_of line.now) else cell self.old k c) }
     {
-        self.cells[slot(kind, class)] += amount;
+        let fields = line.fields();
+        let sum = &mut self.cells[start(line.kind()) + usize::from(fields.class)];
+        sum.first += line.weight();
+        sum.second += u64::from(fields.second);
+        sum.count += 1;
     }
 }

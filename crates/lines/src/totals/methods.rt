@@ -19,20 +19,11 @@ impl Totals {
         if lines.len() > MOST {
             return None;
         }
-        let mut firsts = Sums::new();
-        let mut seconds = Sums::new();
-        let mut counts = Sums::new();
+        let mut sums = Sums::new();
         for line in lines {
-            let fields = line.fields();
-            firsts.add(fields.kind, fields.class, line.weight());
-            seconds.add(fields.kind, fields.class, u64::from(fields.second));
-            counts.add(fields.kind, fields.class, 1);
+            sums.add(line);
         }
-        Some(Totals {
-            firsts,
-            seconds,
-            counts,
-        })
+        Some(Totals { sums })
     }
 
     /// The weights of a kind and class, added.
@@ -40,15 +31,16 @@ impl Totals {
         ensures value { result ≡ first_of self.now (number kind) class }
         ensures small { result ≤ 2 ^ 63 }
     {
-        self.firsts.at(kind.number(), class)
+        self.sums.at(kind, class).first
     }
 
+    // Apart from `first`, since it has a bound of its own.
     /// The amounts of a class of kind 25, added.
     pub fn operational(&self, class: u8) -> u64
         ensures value { result ≡ first_of self.now 25 class }
         ensures small { result ≤ 2 ^ 40 }
     {
-        self.firsts.at(25, class)
+        self.sums.at(Kind::Operational, class).first
     }
 
     /// The second amounts of a kind and class, added.
@@ -56,7 +48,7 @@ impl Totals {
         ensures value { result ≡ second_of self.now (number kind) class }
         ensures small { result ≤ 2 ^ 40 }
     {
-        self.seconds.at(kind.number(), class)
+        self.sums.at(kind, class).second
     }
 
     /// How many lines of a kind and class there are.
@@ -64,7 +56,7 @@ impl Totals {
         ensures value { result ≡ count_of self.now (number kind) class }
         ensures small { result ≤ 128 }
     {
-        self.counts.at(kind.number(), class)
+        self.sums.at(kind, class).count
     }
 
     /// The weights of a kind, of every class, added.
@@ -72,7 +64,7 @@ impl Totals {
         ensures value { result ≡ sum 16 (λ c. first_of self.now (number kind) c) }
         ensures small { result ≤ 2 ^ 63 }
     {
-        self.firsts.row(kind.number())
+        self.sums.row(kind).iter().map(|sum| sum.first).sum()
     }
 
     /// How many lines of a kind there are.
@@ -80,6 +72,6 @@ impl Totals {
         ensures value { result ≡ sum 16 (λ c. count_of self.now (number kind) c) }
         ensures small { result ≤ 128 }
     {
-        self.counts.row(kind.number())
+        self.sums.row(kind).iter().map(|sum| sum.count).sum()
     }
 }

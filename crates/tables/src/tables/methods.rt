@@ -1,9 +1,9 @@
-ghost use Rattle.std.specs.Prelude.{◌≡◌, ◌≤◌};
+ghost use Rattle.std.specs.Prelude.{◌≡◌, ◌+◌, ◌<◌, ◌≤◌};
 ghost use Rattle.roots.specs.Cells.{identity};
 ghost use Rattle.roots.specs.Held.{correlation, table_members};
 ghost use Rattle.tables.specs.Faults.{of_table};
 ghost use Rattle.tables.specs.Numbers.{number};
-ghost use Rattle.tables.specs.Replacing.{Found, told, replacing, replaced};
+ghost use Rattle.tables.specs.Replacing.{told, replacing, replaced};
 ghost use Rattle.tables.specs.Standing.{entries, table as table_of, uncorrelated as none_correlated};
 
 use super::super::fault::EntriesFault;
@@ -17,13 +17,10 @@ fn uncorrelated(members: usize) -> Table
     ensures size { table_members result ≡ members }
     ensures entries { correlation result ≡ identity }
 {
-    match Size::new(members) {
-        Some(size) => Table::uncorrelated(size),
-        None => unreachable(),
-    }
+    Table::uncorrelated(Size::new(members).unwrap())
 }
 
-// The fault of the table with that number.
+// The fault of the table with that number. No `From`: it takes two values.
 fn entries_fault(table: u8, fault: TableFault) -> EntriesFault
     ensures { result ≡ of_table table fault }
 {
@@ -33,12 +30,21 @@ fn entries_fault(table: u8, fault: TableFault) -> EntriesFault
     }
 }
 
+// Where the table stands, from 0.
+fn place(which: Which) -> usize
+    ensures value { result + 1 ≡ number which }
+    ensures inside { result < 7 }
+{
+    which as usize - 1
+}
+
 impl Tables {
     /// 0 off every diagonal.
     pub fn uncorrelated() -> Tables
         ensures { entries result ≡ none_correlated }
     {
         Tables {
+            // not by `map` over the sizes: that each is 2 to 16 is known call by call
             all: [
                 uncorrelated(5),
                 uncorrelated(6),
@@ -55,18 +61,7 @@ impl Tables {
     pub fn get(&self, which: Which) -> Table
         ensures { correlation result ≡ table_of (entries self.now) (number which) }
     {
-        self.all[usize::from(which.number()) - 1]
-    }
-
-    // The place of the table with that number, and its size.
-    fn find(&self, table: u8) -> Option<(usize, Size)>
-        ensures { Found table result }
-    {
-        let Some(which) = Which::numbered(table) else {
-            return None;
-        };
-        let place = usize::from(which.number()) - 1;
-        Some((place, self.all[place].size()))
+        self.all[place(which)]
     }
 
     /// The table with that number replaced by the one with these entries above its diagonal, row by
@@ -75,15 +70,12 @@ impl Tables {
         ensures answer { told result ≡ replacing table given.now }
         ensures after { entries self.new ≡ replaced (entries self.old) table given.now }
     {
-        let Some(found) = self.find(table) else {
-            return Err(EntriesFault::Count(table));
-        };
-        match Table::from_upper(found.1, given) {
-            Ok(new) => {
-                self.all[found.0] = new;
-                Ok(())
-            }
-            Err(fault) => Err(entries_fault(table, fault)),
-        }
+        let which = Which::try_from(table).map_err(|_| EntriesFault::Count(table))?;
+        let place = place(which);
+        let new = Table::from_upper(self.all[place].size(), given).map_err(|fault| entries_fault(
+            table, fault,
+        ))?;
+        self.all[place] = new;
+        Ok(())
     }
 }

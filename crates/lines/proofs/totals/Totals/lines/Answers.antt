@@ -1,15 +1,19 @@
-use Rattle.std.proofs.Common.{ap, ◌∙◌, arith}
-use Rattle.roots.specs.Form.{sum}
-use Rattle.lines.specs.Cells.{cell}
+use Rattle.std.proofs.Common.{◌<◌, ◌^◌, ◌≡◌, ◌∙◌, sum_by, arith, rules}
+use Rattle.lines.specs.declared.sums.Sum.{Sum}
+use Rattle.lines.specs.Kinds.{number}
+use Rattle.lines.proofs.Cells.{row_is}
 use Rattle.lines.proofs.totals.Totals.lines.Goals as goal
 
-pub row-requires : goal.row-requires
-row-requires c = omega (arith, c.args.self.now.few c.number.result)
+pub sum-requires-clause-fits : goal.sum-requires-clause-fits
+sum-requires-clause-fits c =
+    let t = c.args.self.now in
+    let is = row_is (λ (s : Sum). s.count) t.sums (number c.args.kind) c.row.result.now c.row.ensures.all c.row.ensures.each in
+    let fits : sum_by (λ (s : Sum). s.count) c.row.result.now < 2 ^ 64 = omega (arith, is, t.few (number c.args.kind)) in
+    search (rules, fits)
 
 pub returns : goal.returns
 returns c =
     let t = c.args.self.now in
-    record {
-      value = c.row.ensures ∙ ap (λ n. sum 16 (λ d. cell t.counts n d)) c.number.ensures;
-      small = omega (arith, c.row.ensures, t.few c.number.result);
-    }
+    let is = row_is (λ (s : Sum). s.count) t.sums (number c.args.kind) c.row.result.now c.row.ensures.all c.row.ensures.each in
+    let all : c.sum.result ≡ sum_by (λ (s : Sum). s.count) c.row.result.now = search rules in
+    record { value = all ∙ is; small = omega (arith, all, is, t.few (number c.args.kind)) }

@@ -3,4 +3,4 @@ use Rattle.lines.proofs.Adds.{Adds}
 use Rattle.lines.proofs.totals.Totals.of.Given as goal
 
 abbrev pub invariant-loop-line : goal.invariant-loop-line
-invariant-loop-line l = Adds l.firsts l.seconds l.counts (take l.line-index l.lines)
+invariant-loop-line l = Adds l.sums (take l.line-index l.lines)
