@@ -1,19 +1,43 @@
+ghost use Rattle.std.proofs.Common.{lit≤};
+
 use super::businesses::Businesses;
-use charges::{Difference, Module, Rate, RootOfSquares};
+use super::named_module::{Make, Named};
+use charges::{Difference, Rate, RootOfSquares};
+
+/// Equity, by its two classes.
+#[derive(Clone, Copy)]
+pub struct OfEquity;
+
+/// Premium and reserve, by fifteen lines of business.
+#[derive(Clone, Copy)]
+pub struct OfPremium;
+
+/// Market, by figures 1 to 6.
+#[derive(Clone, Copy)]
+pub struct OfMarket;
+
+/// Life, by figures 7 to 13.
+#[derive(Clone, Copy)]
+pub struct OfLife;
+
+/// Health, by figures 14 to 16.
+#[derive(Clone, Copy)]
+pub struct OfHealth;
+
+/// Non-life, by figures 17 and 18.
+#[derive(Clone, Copy)]
+pub struct OfNonLife;
 
 /// The two classes of equity.
 pub type EquityParts = (Rate, (Rate, ()));
 
-/// The module of the two classes of equity.
-pub type Equity = Module<EquityParts>;
-
-/// The module of premium and reserve: the fifteen lines of business.
-pub type PremiumReserve = Module<Businesses>;
-
 /// Figures 1 to 6.
 pub type MarketParts = (
     Difference,
-    (Equity, (Rate, (Rate, (RootOfSquares, (Rate, ()))))),
+    (
+        Named<OfEquity>,
+        (Rate, (Rate, (RootOfSquares, (Rate, ())))),
+    ),
 );
 
 /// Figures 7 to 13.
@@ -32,16 +56,49 @@ pub type LifeParts = (
 pub type HealthParts = (Rate, (Rate, (Rate, ())));
 
 /// Figures 17 and 18.
-pub type NonLifeParts = (PremiumReserve, (RootOfSquares, ()));
+pub type NonLifeParts = (Named<OfPremium>, (RootOfSquares, ()));
 
 /// Figures 19 to 23, the members of the basic SCR.
 pub type BasicParts = (
-    Module<MarketParts>,
+    Named<OfMarket>,
     (
         Rate,
-        (
-            Module<LifeParts>,
-            (Module<HealthParts>, (Module<NonLifeParts>, ())),
-        ),
+        (Named<OfLife>, (Named<OfHealth>, (Named<OfNonLife>, ()))),
     ),
 );
+
+impl Make for OfEquity {
+    type Parts = EquityParts;
+
+    ghost proper = { (lit≤ tt, lit≤ tt, (tt, (tt, tt))) };
+}
+
+impl Make for OfPremium {
+    type Parts = Businesses;
+
+    ghost proper = { (lit≤ tt, lit≤ tt, tt) };
+}
+
+impl Make for OfMarket {
+    type Parts = MarketParts;
+
+    ghost proper = { (lit≤ tt, lit≤ tt, (tt, (tt, (tt, (tt, (tt, (tt, tt))))))) };
+}
+
+impl Make for OfLife {
+    type Parts = LifeParts;
+
+    ghost proper = { (lit≤ tt, lit≤ tt, (tt, (tt, (tt, (tt, (tt, (tt, (tt, tt)))))))) };
+}
+
+impl Make for OfHealth {
+    type Parts = HealthParts;
+
+    ghost proper = { (lit≤ tt, lit≤ tt, (tt, (tt, (tt, tt)))) };
+}
+
+impl Make for OfNonLife {
+    type Parts = NonLifeParts;
+
+    ghost proper = { (lit≤ tt, lit≤ tt, (tt, (tt, tt))) };
+}

@@ -4,12 +4,12 @@ ghost use Rattle.kinds.specs.Ours.{ours};
 
 use super::made::{basic, health, life, market, nonlife};
 use super::modules::{BasicParts, HealthParts, LifeParts, MarketParts, NonLifeParts};
-use choice::{Choice, Given, Source};
+use choice::{Choice, Given, Lists, Source};
 
 /// Our own charges.
 pub struct Ours;
 
-impl<S: Source> Choice<S> for Ours {
+impl Lists for Ours {
     type Market = MarketParts;
 
     type Life = LifeParts;
@@ -20,13 +20,15 @@ impl<S: Source> Choice<S> for Ours {
 
     type Basic = BasicParts;
 
-    ghost meaning = { ours };
-
     ghost shown = { refl };
 
     ghost five = { refl };
 
     ghost proper = { ((tt, ((lit≤ tt, lit≤ tt, (tt, (tt, tt))), (tt, (tt, (tt, (tt, tt)))))), (tt, (tt, (tt, (tt, (tt, (tt, (tt, tt))))))), (tt, (tt, (tt, tt))), ((lit≤ tt, lit≤ tt, tt), (tt, tt)), ((lit≤ tt, lit≤ tt, (tt, ((lit≤ tt, lit≤ tt, (tt, (tt, tt))), (tt, (tt, (tt, (tt, tt))))))), (tt, ((lit≤ tt, lit≤ tt, (tt, (tt, (tt, (tt, (tt, (tt, (tt, tt)))))))), ((lit≤ tt, lit≤ tt, (tt, (tt, (tt, tt)))), ((lit≤ tt, lit≤ tt, ((lit≤ tt, lit≤ tt, tt), (tt, tt))), tt)))))) };
+}
+
+impl<S: Source> Choice<S> for Ours {
+    ghost meaning = { ours };
 
     ghost alike = { λ b c. refl };
 

@@ -2,5 +2,5 @@ pub mod Sums
 pub mod RootLaws
 pub mod Laws
 pub mod Tables
-mod Fill
+pub mod Fill
 pub mod Firsts

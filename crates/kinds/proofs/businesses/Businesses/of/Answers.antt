@@ -1,12 +1,12 @@
-use Rattle.std.proofs.Common.{rules, ◌≡◌, List, ℕ, ◌+◌, ◌-◌, ◌*◌, ◌<◌, ◌≤◌, length, ◌/◌, ◌%◌, Bool, true, false, nat_eq, nat_lt, [], ◌∷◌, ◌++◌, slice_index_or, slice_set, bit_and, bit_or, Fits, w8, w32, w64, Bor, MutBor}
-use Rattle.lines.specs.declared.fields.Fields.{Fields as Given}
-use Rattle.lines.specs.Tally.{Tally}
-use Rattle.kinds.specs.Means.{businesses}
-use Rattle.kinds.specs.Ours.{all_businesses}
-use Rattle.kinds.specs.BusinessLists.{count_fifteen, widths_alike}
-use Rattle.kinds.specs.Kept.{businesses_terms}
+use Rattle.std.proofs.Common.{◌≡◌, ℕ, ◌+◌, ap, ◌∙◌, rules, tests, arith}
+use Rattle.roots.proofs.Fill.{made_by}
+use Rattle.lines.specs.Tally.{first_of}
+use Rattle.lines.specs.Totals.{total}
+use Rattle.kinds.specs.BusinessLists.{businesses_are}
 use Rattle.kinds.proofs.businesses.Businesses.of.Goals as goal
 
--- src/businesses/members.rt:16:5
 pub returns : goal.returns
-returns c = ?
+returns c = λ ls tally.
+    businesses_are 15 1 c.from_fn-volumes.result ls c.result-1.given.0 (λ k h.
+        made_by _ (λ j. first_of c.args.totals.now 17 (j + 1)) _ (λ j y q r. search (rules, tests)) c.from_fn-volumes.result 0 15 c.from_fn-volumes.ensures.items.each k (omega arith) h
+        ∙ tally.firsts 17 (k + 1) ∙ ap (λ d. total 17 d ls) (let e : k + 1 ≡ 1 + k = omega arith in e))
