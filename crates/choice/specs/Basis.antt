@@ -2,22 +2,22 @@
 use Rattle.std.specs.Prelude.{ℕ, List, ◌++◌}
 use Rattle.charges.specs.Meaning.{Meaning}
 use Rattle.lines.specs.declared.fields.Fields.{Fields}
-use Rattle.lines.specs.declared.line.Line.{Line}
 use Rattle.lines.specs.Held.{plain}
-use Rattle.tables.specs.declared.tables.Tables.{Tables}
-use Rattle.tables.specs.Standing.{entries}
+use Rattle.tables.specs.declared.seven.Seven.{Seven}
+use Rattle.tables.specs.Standing.{in_order}
+use Rattle.choice.specs.declared.given.Given.{Given}
 
 -- lines, and tables in the order of their numbers
 pub record Basis : Type 0 where
   pub lines : List Fields
   pub tables : List (ℕ → ℕ → ℕ)
 
-abbrev pub on : List Fields → Tables → Basis
-on ls ts = record { lines = ls; tables = entries ts }
+abbrev pub on : List Fields → Seven → Basis
+on ls ts = record { lines = ls; tables = in_order ts }
 
 -- of the values in the code
-abbrev pub basis : List Line → Tables → Basis
-basis ls ts = on (plain ls) ts
+abbrev pub basis : Given → Basis
+basis g = on (plain g.lines.now) g.tables.now
 
 -- the charges of figures 1 to 6, 7 to 13, 14 to 16, 17 and 18, and of 19 to 23, for all lines and tables
 pub record Chosen : Type 0 where

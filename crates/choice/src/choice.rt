@@ -1,36 +1,52 @@
-ghost use Rattle.std.specs.Prelude.{◌≡◌, ◌++◌};
+ghost use Rattle.std.specs.Prelude.{◌≡◌, ◌+◌, ◌++◌};
 ghost use Rattle.charges.specs.Meaning.{widths};
-ghost use Rattle.lines.specs.Tally.{Tally};
-ghost use Rattle.choice.specs.Basis.{Basis, Chosen, shown as shown_of};
+ghost use Rattle.choice.specs.Basis.{Basis, Chosen, basis, shown as shown_of};
 
 use super::given::Given;
-use super::lists::Lists;
-use super::source::Source;
+use charges::Members;
 
-/// A choice of charges for figures 1 to 23, made from the totals of lines and a source of that type.
-pub trait Choice<S: Source>: Lists {
+/// A choice of charges for figures 1 to 23, made from lines, their totals, and tables.
+pub trait Choice {
+    /// Figures 1 to 6.
+    type Market: Members + Drop;
+    /// Figures 7 to 13.
+    type Life: Members + Drop;
+    /// Figures 14 to 16.
+    type Health: Members + Drop;
+    /// Figures 17 and 18.
+    type NonLife: Members + Drop;
+    /// Figures 19 to 23, the members of the basic SCR.
+    type Basic: Members + Drop;
+
     // what the charges mean, for all lines and tables: equal ones give equal results in every unit
     ghost meaning: { Chosen };
 
     /// Figures 1 to 6.
-    fn market(given: &Given<S>) -> Self::Market
-        ensures { (b : Basis) → Tally given.now.totals.now b.lines → S.Source.stands_for given.now.source.now b → Self.Market.Members.each result ≡ meaning.market b };
+    fn market(given: &Given) -> Self::Market
+        ensures { Self.Market.Members.each result ≡ meaning.market (basis given.now) };
 
     /// Figures 7 to 13.
-    fn life(given: &Given<S>) -> Self::Life
-        ensures { (b : Basis) → Tally given.now.totals.now b.lines → S.Source.stands_for given.now.source.now b → Self.Life.Members.each result ≡ meaning.life b };
+    fn life(given: &Given) -> Self::Life
+        ensures { Self.Life.Members.each result ≡ meaning.life (basis given.now) };
 
     /// Figures 14 to 16.
-    fn health(given: &Given<S>) -> Self::Health
-        ensures { (b : Basis) → Tally given.now.totals.now b.lines → S.Source.stands_for given.now.source.now b → Self.Health.Members.each result ≡ meaning.health b };
+    fn health(given: &Given) -> Self::Health
+        ensures { Self.Health.Members.each result ≡ meaning.health (basis given.now) };
 
     /// Figures 17 and 18.
-    fn non_life(given: &Given<S>) -> Self::NonLife
-        ensures { (b : Basis) → Tally given.now.totals.now b.lines → S.Source.stands_for given.now.source.now b → Self.NonLife.Members.each result ≡ meaning.non_life b };
+    fn non_life(given: &Given) -> Self::NonLife
+        ensures { Self.NonLife.Members.each result ≡ meaning.non_life (basis given.now) };
 
     /// Figures 19 to 23, the members of the basic SCR.
-    fn basic(given: &Given<S>) -> Self::Basic
-        ensures { (b : Basis) → Tally given.now.totals.now b.lines → S.Source.stands_for given.now.source.now b → Self.Basic.Members.each result ≡ meaning.basic b };
+    fn basic(given: &Given) -> Self::Basic
+        ensures { Self.Basic.Members.each result ≡ meaning.basic (basis given.now) };
+
+    // how many charges there are
+    ghost shown: { Self.Market.Members.count + Self.Life.Members.count + Self.Health.Members.count + Self.NonLife.Members.count ≡ 18 };
+
+    ghost five: { Self.Basic.Members.count ≡ 5 };
+
+    ghost proper: { Self.Market.Members.proper × Self.Life.Members.proper × Self.Health.Members.proper × Self.NonLife.Members.proper × Self.Basic.Members.proper };
 
     // the greatest widths depend on the choice alone
     ghost alike: { (b c : Basis) → widths (shown_of meaning b ++ meaning.basic b) ≡ widths (shown_of meaning c ++ meaning.basic c) };

@@ -1,10 +1,16 @@
-use lines::Totals;
+ghost use Rattle.lines.specs.Held.{plain};
+ghost use Rattle.lines.specs.Tally.{Tally};
 
-/// What charges are made from: the totals of lines, and a source.
+use lines::{Line, Totals};
+use tables::Seven;
+
+/// What charges are made from: lines with their totals, and seven tables.
 #[derive(Clone, Copy)]
-pub struct Given<'a, S> {
-    /// The totals of the lines.
-    pub totals: &'a Totals,
-    /// The tables, and what else there is.
-    pub source: &'a S,
+pub struct Given<'a> {
+    lines: &'a [Line],
+    totals: &'a Totals,
+    tables: &'a Seven,
+    ghost tallied: { Tally totals.now (plain lines.now) },
 }
+
+mod make;

@@ -5,11 +5,7 @@ mod beside;
 mod choice;
 mod figures;
 mod given;
-mod lists;
-mod source;
 
 pub use choice::Choice;
 pub use figures::figures_by;
 pub use given::Given;
-pub use lists::Lists;
-pub use source::Source;

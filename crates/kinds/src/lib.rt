@@ -6,6 +6,7 @@ mod leaves;
 mod made;
 mod modules;
 mod named;
+mod named_module;
 mod ours;
 mod worked;
 

@@ -1,55 +1,48 @@
 ghost use Rattle.std.specs.Prelude.{◌≡◌};
+ghost use Rattle.roots.specs.Held.{correlation};
+ghost use Rattle.charges.specs.Meaning.{module_of};
 ghost use Rattle.lines.specs.Tally.{Tally};
+ghost use Rattle.tables.specs.Numbers.{number};
+ghost use Rattle.tables.specs.Standing.{table};
 ghost use Rattle.choice.specs.Basis.{Basis};
-ghost use Rattle.kinds.specs.Means.{equity_means, premium_means, market_parts, market_means, life_parts, life_means, health_parts, health_means, nonlife_parts, nonlife_means, basic_parts};
-ghost use Rattle.kinds.specs.Ours.{equity as equity_of, premium_reserve, market as market_of, lives, health as health_of, non_life as nonlife_of, market_module, life_module, health_module, nonlife_module, basic_members};
+ghost use Rattle.kinds.specs.Ours.{market as market_of, lives, health as health_of, non_life as nonlife_of, basic_members};
 
 use super::businesses::Businesses;
 use super::leaves::{currency, fall, interest, part, spread, squares};
 use super::modules::{
-    BasicParts, Equity, HealthParts, LifeParts, MarketParts, NonLifeParts, PremiumReserve,
+    BasicParts, HealthParts, LifeParts, MarketParts, NonLifeParts, OfEquity, OfHealth, OfLife,
+    OfMarket, OfNonLife, OfPremium,
 };
-use charges::{Module, Parts};
+use super::named_module::{Make, Named};
+use charges::{Members, Parts};
 use choice::{Given, Source};
 use lines::Kind;
 use tables::Which;
 
-// 32% of global and 45% of other equity, by their table.
-fn equity<S: Source>(given: &Given<S>) -> Equity
-    ensures { (b : Basis) → Tally given.now.totals.now b.lines → S.Source.stands_for given.now.source.now b → equity_means result ≡ equity_of b }
+// These members under one of the tables.
+fn module<S: Source, M: Make>(source: &S, which: Which, members: M::Parts) -> Named<M>
+    ensures { (b : Basis) → S.Source.stands_for source.now b → module_of (correlation result.inside.table) (M.Parts.Members.each result.inside.members) ≡ module_of (table b.tables (number which)) (M.Parts.Members.each members) }
 {
-    let global = part(given.totals, Kind::Equity, 1, 32, Parts::Hundredths);
-    let other = part(given.totals, Kind::Equity, 2, 45, Parts::Hundredths);
-    Module::new((global, (other, ())), given.source.table(Which::Equity))
-}
-
-// The fifteen lines of business, by their table.
-fn premium<S: Source>(given: &Given<S>) -> PremiumReserve
-    ensures { (b : Basis) → Tally given.now.totals.now b.lines → S.Source.stands_for given.now.source.now b → premium_means result ≡ premium_reserve b }
-{
-    Module::new(
-        Businesses::of(given.totals),
-        given.source.table(Which::Business),
-    )
+    Named::new(members, source.table(which))
 }
 
 /// Figures 1 to 6.
 pub(super) fn market<S: Source>(given: &Given<S>) -> MarketParts
-    ensures { (b : Basis) → Tally given.now.totals.now b.lines → S.Source.stands_for given.now.source.now b → market_parts result ≡ market_of b }
+    ensures { (b : Basis) → Tally given.now.totals.now b.lines → S.Source.stands_for given.now.source.now b → ⟦<MarketParts as Members>⟧.each result ≡ market_of b }
 {
+    let global = part(given.totals, Kind::Equity, 1, 32, Parts::Hundredths);
+    let other = part(given.totals, Kind::Equity, 2, 45, Parts::Hundredths);
+    let equity = module::<S, OfEquity>(given.source, Which::Equity, (global, (other, ())));
     let property = part(given.totals, Kind::Property, 0, 20, Parts::Hundredths);
     let concentration = squares(given.totals, Kind::Concentration);
     let last = (concentration, (currency(given.totals), ()));
     let spread = spread(given.totals);
-    (
-        interest(given.totals),
-        (equity(given), (property, (spread, last))),
-    )
+    (interest(given.totals), (equity, (property, (spread, last))))
 }
 
 /// Figures 7 to 13.
 pub(super) fn life<S: Source>(given: &Given<S>) -> LifeParts
-    ensures { (b : Basis) → Tally given.now.totals.now b.lines → S.Source.stands_for given.now.source.now b → life_parts result ≡ lives b }
+    ensures { (b : Basis) → Tally given.now.totals.now b.lines → S.Source.stands_for given.now.source.now b → ⟦<LifeParts as Members>⟧.each result ≡ lives b }
 {
     let catastrophe = fall(given.totals, Kind::LifeCatastrophe, 1, 2);
     let last = (fall(given.totals, Kind::Revision, 1, 2), (catastrophe, ()));
@@ -69,7 +62,7 @@ pub(super) fn life<S: Source>(given: &Given<S>) -> LifeParts
 
 /// Figures 14 to 16.
 pub(super) fn health<S: Source>(given: &Given<S>) -> HealthParts
-    ensures { (b : Basis) → Tally given.now.totals.now b.lines → S.Source.stands_for given.now.source.now b → health_parts result ≡ health_of b }
+    ensures { (b : Basis) → Tally given.now.totals.now b.lines → S.Source.stands_for given.now.source.now b → ⟦<HealthParts as Members>⟧.each result ≡ health_of b }
 {
     let expense = part(
         given.totals,
@@ -97,45 +90,19 @@ pub(super) fn health<S: Source>(given: &Given<S>) -> HealthParts
 
 /// Figures 17 and 18.
 pub(super) fn nonlife<S: Source>(given: &Given<S>) -> NonLifeParts
-    ensures { (b : Basis) → Tally given.now.totals.now b.lines → S.Source.stands_for given.now.source.now b → nonlife_parts result ≡ nonlife_of b }
+    ensures { (b : Basis) → Tally given.now.totals.now b.lines → S.Source.stands_for given.now.source.now b → ⟦<NonLifeParts as Members>⟧.each result ≡ nonlife_of b }
 {
-    (
-        premium(given),
-        (squares(given.totals, Kind::Catastrophe), ()),
-    )
-}
-
-// The module of figures 1 to 6.
-fn market_module<S: Source>(given: &Given<S>) -> Module<MarketParts>
-    ensures { (b : Basis) → Tally given.now.totals.now b.lines → S.Source.stands_for given.now.source.now b → market_means result ≡ market_module b }
-{
-    Module::new(market(given), given.source.table(Which::Market))
-}
-
-// The module of figures 7 to 13.
-fn life_module<S: Source>(given: &Given<S>) -> Module<LifeParts>
-    ensures { (b : Basis) → Tally given.now.totals.now b.lines → S.Source.stands_for given.now.source.now b → life_means result ≡ life_module b }
-{
-    Module::new(life(given), given.source.table(Which::Life))
-}
-
-// The module of figures 14 to 16.
-fn health_module<S: Source>(given: &Given<S>) -> Module<HealthParts>
-    ensures { (b : Basis) → Tally given.now.totals.now b.lines → S.Source.stands_for given.now.source.now b → health_means result ≡ health_module b }
-{
-    Module::new(health(given), given.source.table(Which::Health))
-}
-
-// The module of figures 17 and 18.
-fn nonlife_module<S: Source>(given: &Given<S>) -> Module<NonLifeParts>
-    ensures { (b : Basis) → Tally given.now.totals.now b.lines → S.Source.stands_for given.now.source.now b → nonlife_means result ≡ nonlife_module b }
-{
-    Module::new(nonlife(given), given.source.table(Which::NonLife))
+    let premium = module::<S, OfPremium>(
+        given.source,
+        Which::Business,
+        Businesses::of(given.totals),
+    );
+    (premium, (squares(given.totals, Kind::Catastrophe), ()))
 }
 
 /// Figures 19 to 23.
 pub(super) fn basic<S: Source>(given: &Given<S>) -> BasicParts
-    ensures { (b : Basis) → Tally given.now.totals.now b.lines → S.Source.stands_for given.now.source.now b → basic_parts result ≡ basic_members b }
+    ensures { (b : Basis) → Tally given.now.totals.now b.lines → S.Source.stands_for given.now.source.now b → ⟦<BasicParts as Members>⟧.each result ≡ basic_members b }
 {
     let default = part(
         given.totals,
@@ -144,6 +111,9 @@ pub(super) fn basic<S: Source>(given: &Given<S>) -> BasicParts
         1,
         Parts::TenThousandths,
     );
-    let last = (health_module(given), (nonlife_module(given), ()));
-    (market_module(given), (default, (life_module(given), last)))
+    let market = module::<S, OfMarket>(given.source, Which::Market, market(given));
+    let life = module::<S, OfLife>(given.source, Which::Life, life(given));
+    let health = module::<S, OfHealth>(given.source, Which::Health, health(given));
+    let nonlife = module::<S, OfNonLife>(given.source, Which::NonLife, nonlife(given));
+    (market, (default, (life, (health, (nonlife, ())))))
 }

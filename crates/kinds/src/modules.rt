@@ -5,27 +5,21 @@ use super::named_module::{Make, Named};
 use charges::{Difference, Rate, RootOfSquares};
 
 /// Equity, by its two classes.
-#[derive(Clone, Copy)]
 pub struct OfEquity;
 
 /// Premium and reserve, by fifteen lines of business.
-#[derive(Clone, Copy)]
 pub struct OfPremium;
 
 /// Market, by figures 1 to 6.
-#[derive(Clone, Copy)]
 pub struct OfMarket;
 
 /// Life, by figures 7 to 13.
-#[derive(Clone, Copy)]
 pub struct OfLife;
 
 /// Health, by figures 14 to 16.
-#[derive(Clone, Copy)]
 pub struct OfHealth;
 
 /// Non-life, by figures 17 and 18.
-#[derive(Clone, Copy)]
 pub struct OfNonLife;
 
 /// The two classes of equity.
@@ -34,10 +28,7 @@ pub type EquityParts = (Rate, (Rate, ()));
 /// Figures 1 to 6.
 pub type MarketParts = (
     Difference,
-    (
-        Named<OfEquity>,
-        (Rate, (Rate, (RootOfSquares, (Rate, ())))),
-    ),
+    (Named<OfEquity>, (Rate, (Rate, (RootOfSquares, (Rate, ()))))),
 );
 
 /// Figures 7 to 13.

@@ -11,15 +11,15 @@ use charges::{Charge, Members, Module, TooLarge};
 use roots::Table;
 
 /// The make of a module: of which members it is.
-pub trait Make: Copy {
+pub trait Make {
     /// The members.
-    type Parts: Members + Copy;
+    type Parts: Members + Drop;
 
     ghost proper: { (2 ≤ Self.Parts.Members.count) × (Self.Parts.Members.count ≤ 16) × Self.Parts.Members.proper };
 }
 
 /// A module that is known by its make alone, so that types stay small where modules hold modules.
-#[derive(Clone, Copy)]
+#[derive(Drop)]
 pub struct Named<M: Make> {
     inside: Module<M::Parts>,
 }

@@ -1,5 +1,5 @@
 ghost use Rattle.std.specs.Prelude.{◌≡◌};
-ghost use Rattle.std.proofs.Common.{refl, lit≤};
+ghost use Rattle.std.proofs.Common.{refl};
 ghost use Rattle.kinds.specs.Ours.{ours};
 
 use super::made::{basic, health, life, market, nonlife};
@@ -24,7 +24,7 @@ impl Lists for Ours {
 
     ghost five = { refl };
 
-    ghost proper = { ((tt, ((lit≤ tt, lit≤ tt, (tt, (tt, tt))), (tt, (tt, (tt, (tt, tt)))))), (tt, (tt, (tt, (tt, (tt, (tt, (tt, tt))))))), (tt, (tt, (tt, tt))), ((lit≤ tt, lit≤ tt, tt), (tt, tt)), ((lit≤ tt, lit≤ tt, (tt, ((lit≤ tt, lit≤ tt, (tt, (tt, tt))), (tt, (tt, (tt, (tt, tt))))))), (tt, ((lit≤ tt, lit≤ tt, (tt, (tt, (tt, (tt, (tt, (tt, (tt, tt)))))))), ((lit≤ tt, lit≤ tt, (tt, (tt, (tt, tt)))), ((lit≤ tt, lit≤ tt, ((lit≤ tt, lit≤ tt, tt), (tt, tt))), tt)))))) };
+    ghost proper = { ((tt, (tt, (tt, (tt, (tt, (tt, tt)))))), (tt, (tt, (tt, (tt, (tt, (tt, (tt, tt))))))), (tt, (tt, (tt, tt))), (tt, (tt, tt)), (tt, (tt, (tt, (tt, (tt, tt)))))) };
 }
 
 impl<S: Source> Choice<S> for Ours {

@@ -36,9 +36,9 @@ impl Members for Businesses {
 
     fn gather(&self, pairs: &mut Pairs) -> Result<(), TooLargeAt> {
         for (i, volume) in self.volumes.iter().enumerate() {
-            let pair = Rate::new(*volume, 3, Parts::TenThousandths)
-                .bounds()
-                .map_err(|_| TooLargeAt(i as u8 + 1))?;
+            let Ok(pair) = Rate::new(*volume, 3, Parts::TenThousandths).bounds() else {
+                return Err(TooLargeAt(i as u8 + 1));
+            };
             let _ = pairs.push(pair);
         }
         Ok(())

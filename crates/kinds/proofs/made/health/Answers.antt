@@ -4,4 +4,4 @@ use Rattle.kinds.proofs.made.health.Goals as goal
 
 pub returns : goal.returns
 returns g c = λ b tally stands.
-    cons _ _ _ _ (c.part-expense.ensures b.lines tally) (cons _ _ _ _ (c.part-claims.ensures b.lines tally) (cons _ _ _ _ (c.part-accumulation.ensures b.lines tally) refl))
+    cons _ _ _ _ (c.part-expense.ensures b.lines tally) (cons _ _ _ _ (c.part-claims.ensures b.lines tally) (cons _ _ _ _ (c.part-accumulation.ensures b.lines tally) (refl)))

@@ -4,4 +4,4 @@ use Rattle.kinds.proofs.Asked.{Asked}
 use Rattle.kinds.proofs.businesses.members.BusinessesMembers.gather.Given as goal
 
 abbrev pub invariant-loop-i : goal.invariant-loop-i
-invariant-loop-i l = Asked (businesses l.self) (held l.initial.pairs) l.i-counter (held l.pairs)
+invariant-loop-i l = Asked (businesses l.self) (held l.initial.pairs) l.i (held l.pairs)

@@ -1,13 +1,15 @@
 ghost use Rattle.std.specs.Prelude.{◌≡◌};
-ghost use Rattle.kinds.specs.Ours.{in_order};
+ghost use Rattle.roots.specs.Held.{correlation};
+ghost use Rattle.tables.specs.Numbers.{number};
+ghost use Rattle.tables.specs.Standing.{entries, in_order, table};
 
-use choice::Source;
+use super::tables::Tables;
+use super::which::Which;
 use roots::Table;
-use tables::Which;
 
 /// Seven correlation tables, each by its name and of any size.
 #[derive(Clone, Copy)]
-pub struct Tables {
+pub struct Seven {
     /// 1: market, default, life, health, non-life.
     pub basic: Table,
     /// 2: interest, equity, property, spread, concentration, currency.
@@ -24,10 +26,11 @@ pub struct Tables {
     pub business: Table,
 }
 
-impl Source for Tables {
-    ghost stands_for = { λ ts b. b.tables ≡ in_order ts };
-
-    fn table(&self, which: Which) -> Table {
+impl Seven {
+    /// One of them.
+    pub fn get(&self, which: Which) -> Table
+        ensures { correlation result ≡ table (in_order self.now) (number which) }
+    {
         match which {
             Which::Basic => self.basic,
             Which::Market => self.market,
@@ -36,6 +39,22 @@ impl Source for Tables {
             Which::Health => self.health,
             Which::NonLife => self.non_life,
             Which::Business => self.business,
+        }
+    }
+}
+
+impl From<Tables> for Seven {
+    ghost from_gives = { λ ts seven. in_order seven ≡ entries ts };
+
+    fn from(tables: Tables) -> Seven {
+        Seven {
+            basic: tables.get(Which::Basic),
+            market: tables.get(Which::Market),
+            equity: tables.get(Which::Equity),
+            life: tables.get(Which::Life),
+            health: tables.get(Which::Health),
+            non_life: tables.get(Which::NonLife),
+            business: tables.get(Which::Business),
         }
     }
 }

@@ -1,9 +1,0 @@
-use Rattle.std.proofs.Common.{ap, ◌∙◌}
-use Rattle.roots.specs.Held.{correlation}
-use Rattle.kinds.specs.Means.{nonlife_parts}
-use Rattle.kinds.proofs.Same.{module_same}
-use Rattle.kinds.proofs.made.nonlife_module.Goals as goal
-
-pub returns : goal.returns
-returns g c = λ b tally stands.
-    module_same _ _ _ _ (ap correlation c.new.ensures.table ∙ c.table.ensures b stands) (ap nonlife_parts c.new.ensures.members ∙ c.nonlife.ensures b tally stands)
