@@ -1,80 +1,75 @@
-//! Prints the 28 figures of a company whose lines stand in this program, under the tables of QIS3.
+//! Prints the 28 figures of a sample company under the tables of QIS3.
 #![tactic(auto)]
 
-mod book;
-mod qis3;
-
-use book::BOOK;
-use kinds::figures;
-use lines::{Fields, Line, Totals};
-use qis3::tables;
+use kinds::{Tables, figures};
+use lines::{Line, Totals};
+use roots::{Size, Table};
+use sample::{book, entries};
 use std::env;
 use std::process::ExitCode;
+use tables::Which;
 
 const USAGE: &str = "usage: company
 Prints the 28 figures of a company under the tables of QIS3, one a line: number, low, high.
 ";
 
-fn fields(given: (u8, u8, u16, u32, u32)) -> Fields {
-    Fields {
-        kind: given.0,
-        class: given.1,
-        rate: given.2,
-        first: given.3,
-        second: given.4,
-    }
-}
-
 // The totals of the company's lines.
 fn totals(rt: &HostRuntime) -> anyhow::Result<Option<Totals>> {
     let mut lines = Vec::new(rt.alloc());
-    for given in BOOK {
-        let Ok(line) = Line::new(fields(given), lines.len() + 1) else {
+    for given in book() {
+        let Ok(line) = Line::new(given, lines.len() + 1) else {
             return Ok(None);
         };
         lines.push(line)?;
     }
-    Ok(Totals::of(lines.as_slice()))
+    Ok(Totals::of(&lines))
 }
 
-// Whether all went well.
-fn print_figures(rt: &HostRuntime) -> anyhow::Result<bool> {
+fn table(members: usize, which: Which) -> Option<Table> {
+    Table::from_upper(Size::new(members)?, entries(which)).ok()
+}
+
+fn tables() -> Option<Tables> {
+    Some(Tables {
+        basic: table(5, Which::Basic)?,
+        market: table(6, Which::Market)?,
+        equity: table(2, Which::Equity)?,
+        life: table(7, Which::Life)?,
+        health: table(3, Which::Health)?,
+        non_life: table(2, Which::NonLife)?,
+        business: table(15, Which::Business)?,
+    })
+}
+
+fn print_figures(rt: &HostRuntime) -> anyhow::Result<ExitCode> {
     let Some(totals) = totals(rt)? else {
         eprint!(rt; "company: a line breaks the rules of its kind\n")?;
-        return Ok(false);
+        return Ok(ExitCode::FAILURE);
     };
     let Some(tables) = tables() else {
         eprint!(rt; "company: a table is not in order\n")?;
-        return Ok(false);
+        return Ok(ExitCode::FAILURE);
     };
     let mut place = [(0, 0); 28];
     if let Err(at) = figures(&totals, &tables, &mut place) {
         eprint!(rt; "company: figure {} is too large\n", at.0)?;
-        return Ok(false);
+        return Ok(ExitCode::FAILURE);
     }
-    for i in 0..28 {
-        print!(rt; "{} {} {}\n", i + 1, place[i].0, place[i].1)?;
+    for (i, (low, high)) in place.iter().enumerate() {
+        print!(rt; "{} {low} {high}\n", i + 1)?;
     }
-    Ok(true)
+    Ok(ExitCode::SUCCESS)
 }
 
-// Whether all went well.
-fn run(rt: &HostRuntime) -> anyhow::Result<bool> {
-    let Some(word) = env::args(rt)?.skip(1).next() else {
-        return print_figures(rt);
+// The programs share no `main`: it could promise nothing, since no clause speaks of arguments or prints.
+fn main(rt: HostRuntime) -> anyhow::Result<ExitCode> {
+    let Some(word) = env::args(&rt)?.nth(1) else {
+        return print_figures(&rt);
     };
     if word.as_str() == "--help" {
         print!(rt; "{USAGE}")?;
-        return Ok(true);
+        return Ok(ExitCode::SUCCESS);
     }
     eprint!(rt; "{USAGE}")?;
-    Ok(false)
-}
-
-fn main(rt: HostRuntime) -> anyhow::Result<ExitCode> {
-    if run(&rt)? {
-        Ok(ExitCode::SUCCESS)
-    } else {
-        Ok(ExitCode::FAILURE)
-    }
+    Ok(ExitCode::FAILURE)
 }

@@ -1,8 +1,9 @@
 ghost use Rattle.std.specs.Prelude.{◌≡◌};
-ghost use Rattle.filing.specs.declared.fault.FilingFault.TheVariants.{Entries, Line};
+ghost use Rattle.filing.specs.declared.fault.FilingFault.TheVariants.{Entries, Line, TooLarge};
 ghost use Rattle.filing.specs.declared.fault.OpenFault.TheVariants.{Memory, Filing};
 ghost use Rattle.filing.specs.Faults.{shown};
 
+use charges::TooLargeAt;
 use lines::LineFault;
 use std::alloc::AllocError;
 use tables::EntriesFault;
@@ -43,6 +44,7 @@ impl FilingFault {
     }
 }
 
+// Written out, since a `From` of `thiserror` would promise nothing of the value.
 impl From<LineFault> for FilingFault {
     ghost from_gives = { λ e r. r ≡ Line e };
 
@@ -56,6 +58,14 @@ impl From<EntriesFault> for FilingFault {
 
     fn from(fault: EntriesFault) -> FilingFault {
         FilingFault::Entries(fault)
+    }
+}
+
+impl From<TooLargeAt> for FilingFault {
+    ghost from_gives = { λ e r. r ≡ TooLarge e.0 };
+
+    fn from(at: TooLargeAt) -> FilingFault {
+        FilingFault::TooLarge(at.0)
     }
 }
 

@@ -5,6 +5,8 @@ ghost use Rattle.lines.specs.Totals.{kind_count};
 use lines::Line;
 use tables::Tables;
 
+const MOST_LINES: usize = 128;
+
 /// A filing. Its lines and tables are sound by their own types.
 #[derive(Drop)]
 pub struct Filing {

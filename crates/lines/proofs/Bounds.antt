@@ -1,11 +1,14 @@
 -- The fields of a line that keeps its rules are within bounds, whatever its kind. Assumes nothing.
-use Rattle.std.proofs.Common.{◌≡◌, ℕ, ◌*◌, ◌^◌, ◌<◌, ◌≤◌, Bool, true, false, not, ◌&&◌, ◌||◌, eqb, leb, ◌⊎◌, List, [], ◌∷◌, is_some, Some, None, Ok, Option, sym, refl, ap, ◌∙◌, inl, inr, arith}
+use Rattle.std.proofs.Common.{rules, ◌≡◌, ℕ, ◌*◌, ◌^◌, ◌<◌, ◌≤◌, Bool, true, false, not, ◌&&◌, ◌||◌, eqb, leb, ◌⊎◌, List, [], ◌∷◌, is_some, Some, None, Ok, Option, sym, refl, ap, ◌∙◌, inl, inr, arith}
 use Rattle.std.specs.Option.{ok_or}
 use Rattle.std.proofs.lemmas.Nat.{mul-le}
-use Rattle.std.proofs.lemmas.Bool.{cases_Bool, cond-true, cond-false, cond_both, and_parts, or_cases, eqb-true}
+use Rattle.std.proofs.lemmas.Bool.{eq-eqb, ne_eqb, cases_Bool, cond-true, cond-false, cond_both, and_parts, or_cases, eqb-true}
 use Rattle.std.proofs.lemmas.Bool.Decides.{nat_tests}
+use denote.Enum.Bare.{sameb, same_true, same_false}
+use Rattle.lines.specs.contracts.kind.Kind.{the_type}
 use Rattle.lines.specs.declared.fields.Fields.{Fields}
 use Rattle.lines.specs.declared.kind.Kind.{Kind}
+use Rattle.lines.specs.declared.kind.Kind.TheVariants.{Interest, Equity, Property, Spread, Concentration, Currency, Mortality, Longevity, Disability, Lapse, LifeExpense, Revision, LifeCatastrophe, HealthExpense, HealthClaims, Accumulation, PremiumReserve, Catastrophe, CounterpartyDefault, Operational}
 use Rattle.lines.specs.declared.kind.Rule.{Rule}
 use Rattle.lines.specs.declared.kind.UnknownKind.{UnknownKind}
 use Rattle.lines.specs.declared.line.Line.{Line}
@@ -39,6 +42,37 @@ number_of n k e h = go (among kinds n) refl h
     go (Some j) same h =
         let one : j ≡ k = cc in
         sym (found (λ _. true) kinds n k refl (same ∙ ap Some one)).1
+
+-- every kind is found by its number
+at_number : (k : Kind) → among kinds (number k) ≡ Some k
+at_number Interest = refl
+at_number Equity = refl
+at_number Property = refl
+at_number Spread = refl
+at_number Concentration = refl
+at_number Currency = refl
+at_number Mortality = refl
+at_number Longevity = refl
+at_number Disability = refl
+at_number Lapse = refl
+at_number LifeExpense = refl
+at_number Revision = refl
+at_number LifeCatastrophe = refl
+at_number HealthExpense = refl
+at_number HealthClaims = refl
+at_number Accumulation = refl
+at_number PremiumReserve = refl
+at_number Catastrophe = refl
+at_number CounterpartyDefault = refl
+at_number Operational = refl
+
+one_kind : (j k : Kind) → number j ≡ number k → j ≡ k
+one_kind j k h = let s : Some j ≡ Some k = sym (at_number j) ∙ ap (among kinds) h ∙ at_number k in cc
+
+-- kinds are one where their numbers are
+pub same_kind : (j k : Kind) (b : Bool) → b ≡ sameb the_type j k → b ≡ eqb (number j) (number k)
+same_kind j k true h = sym (eq-eqb (number j) (number k) (ap number (same_true the_type (search rules) j k (sym h))))
+same_kind j k false h = sym (ne_eqb (number j) (number k) (λ e. same_false the_type j k (sym h) (one_kind j k e)))
 
 -- what the number and the rule of every kind keep to
 abbrev moderate : ℕ → Rule → Bool

@@ -2,16 +2,13 @@
 //! the lines of a company, is refused once, strikes a line, and works out the 28 figures.
 #![tactic(auto)]
 
-mod book;
-mod qis3;
-
-use book::{BOOK, STRUCK, TOO_LONG};
 use filing::{Filing, FilingFault, OpenFault};
 use lines::Fields;
 use ours::Ours;
-use qis3::entries;
+use sample::{book, entries};
 use std::process::ExitCode;
 use std::{env, io};
+use tables::Which;
 use working::WorkOut;
 
 const USAGE: &str = "usage: trial
@@ -21,6 +18,37 @@ Files a trial quarter and prints each step, then the 28 figures, one a line: num
 const YEAR: u16 = 2031;
 
 const QUARTER: u8 = 4;
+
+const TABLES: [Which; 7] = [
+    Which::Basic,
+    Which::Market,
+    Which::Equity,
+    Which::Life,
+    Which::Health,
+    Which::NonLife,
+    Which::Business,
+];
+
+// The number of the line that is struck.
+const STRUCK: usize = 8;
+
+// That line: the property before it once more, with a digit lost.
+const WRONG: Fields = Fields {
+    kind: 3,
+    class: 0,
+    rate: 0,
+    first: 5_120,
+    second: 0,
+};
+
+// A line that is refused: its duration is over 50 years.
+const TOO_LONG: Fields = Fields {
+    kind: 4,
+    class: 3,
+    rate: 5_001,
+    first: 1_000,
+    second: 0,
+};
 
 // How the step before ended.
 fn tell(rt: &HostRuntime, answer: Result<(), FilingFault>) -> io::Result<()> {
@@ -33,64 +61,68 @@ fn tell(rt: &HostRuntime, answer: Result<(), FilingFault>) -> io::Result<()> {
     }
 }
 
-fn enter(rt: &HostRuntime, filing: &mut Filing, given: (u8, u8, u16, u32, u32)) -> io::Result<()> {
-    let (kind, class, rate, first, second) = given;
-    print!(rt; "enter {kind} {class} {rate} {first} {second}: ")?;
-    let answer = filing.enter(Fields {
+fn enter(rt: &HostRuntime, filing: &mut Filing, given: Fields) -> io::Result<()> {
+    let Fields {
         kind,
         class,
         rate,
         first,
         second,
-    });
-    tell(rt, answer)
+    } = given;
+    print!(rt; "enter {kind} {class} {rate} {first} {second}: ")?;
+    tell(rt, filing.enter(given))
 }
 
-fn replace(rt: &HostRuntime, filing: &mut Filing, table: u8) -> io::Result<()> {
+fn replace(rt: &HostRuntime, filing: &mut Filing, which: Which) -> io::Result<()> {
+    let table = u8::from(which);
     print!(rt; "replace {table}: ")?;
-    tell(rt, filing.replace(table, entries(table)))
+    tell(rt, filing.replace(table, entries(which)))
 }
 
 // The quarter's calls on a newly opened filing.
 fn fill(rt: &HostRuntime, filing: &mut Filing) -> io::Result<()> {
-    for table in 1..8 {
-        replace(rt, filing, table)?;
+    for which in TABLES {
+        replace(rt, filing, which)?;
     }
-    for given in BOOK {
-        enter(rt, filing, given)?;
+    let book = book();
+    let (before, behind) = book.split_at(STRUCK - 1);
+    for given in before {
+        enter(rt, filing, *given)?;
+    }
+    enter(rt, filing, WRONG)?;
+    for given in behind {
+        enter(rt, filing, *given)?;
     }
     enter(rt, filing, TOO_LONG)?;
     print!(rt; "strike {STRUCK}: ")?;
     tell(rt, filing.strike(STRUCK))
 }
 
-// Whether there are figures.
-fn work_out(rt: &HostRuntime, filing: &Filing) -> io::Result<bool> {
+fn work_out(rt: &HostRuntime, filing: &Filing) -> io::Result<ExitCode> {
     print!(rt; "work out: ")?;
     let mut place = [(0, 0); 28];
     let answer = filing.work_out::<Ours>(&mut place);
     tell(rt, answer)?;
     if answer.is_err() {
-        return Ok(false);
+        return Ok(ExitCode::FAILURE);
     }
-    for i in 0..28 {
-        print!(rt; "{} {} {}\n", i + 1, place[i].0, place[i].1)?;
+    for (i, (low, high)) in place.iter().enumerate() {
+        print!(rt; "{} {low} {high}\n", i + 1)?;
     }
-    Ok(true)
+    Ok(ExitCode::SUCCESS)
 }
 
-// Whether all went well.
-fn file(rt: &HostRuntime) -> io::Result<bool> {
+fn file(rt: &HostRuntime) -> io::Result<ExitCode> {
     print!(rt; "open {YEAR} {QUARTER}: ")?;
     let mut filing = match Filing::new(rt.alloc(), YEAR, QUARTER) {
         Ok(filing) => filing,
         Err(OpenFault::Memory) => {
             eprint!(rt; "trial: no memory for a filing\n")?;
-            return Ok(false);
+            return Ok(ExitCode::FAILURE);
         }
         Err(OpenFault::Filing(fault)) => {
             tell(rt, Err(fault))?;
-            return Ok(false);
+            return Ok(ExitCode::FAILURE);
         }
     };
     tell(rt, Ok(()))?;
@@ -98,23 +130,15 @@ fn file(rt: &HostRuntime) -> io::Result<bool> {
     work_out(rt, &filing)
 }
 
-// Whether all went well.
-fn run(rt: &HostRuntime) -> anyhow::Result<bool> {
-    let Some(word) = env::args(rt)?.skip(1).next() else {
-        return Ok(file(rt)?);
+// The programs share no `main`: it could promise nothing, since no clause speaks of arguments or prints.
+fn main(rt: HostRuntime) -> anyhow::Result<ExitCode> {
+    let Some(word) = env::args(&rt)?.nth(1) else {
+        return Ok(file(&rt)?);
     };
     if word.as_str() == "--help" {
         print!(rt; "{USAGE}")?;
-        return Ok(true);
+        return Ok(ExitCode::SUCCESS);
     }
     eprint!(rt; "{USAGE}")?;
-    Ok(false)
-}
-
-fn main(rt: HostRuntime) -> anyhow::Result<ExitCode> {
-    if run(&rt)? {
-        Ok(ExitCode::SUCCESS)
-    } else {
-        Ok(ExitCode::FAILURE)
-    }
+    Ok(ExitCode::FAILURE)
 }

@@ -1,52 +1,32 @@
 ghost use Rattle.std.specs.Prelude.{◌≡◌};
 ghost use Rattle.lines.specs.Held.{plain};
+ghost use Rattle.lines.specs.Kinds.{number};
 ghost use Rattle.lines.specs.Totals.{kind_count};
-ghost use Rattle.lines.specs.Weights.{square};
 ghost use Rattle.tables.specs.Replacing.{answer, refusal as replace_refusal};
 ghost use Rattle.filing.specs.Machine.{full, enter_refusal, entered, strike_refusal, struck, replaced};
 ghost use Rattle.filing.specs.Stands.{stands, told};
 
 use super::super::fault::FilingFault;
-use super::Filing;
-use lines::{Fields, Line};
-
-const MOST_LINES: usize = 128;
+use super::{Filing, MOST_LINES};
+use lines::{Fields, Kind, Line};
 
 // The most lines of a kind whose amounts are squared.
 const MOST_SQUARED: usize = 16;
 
-// Whether the amounts of a kind are squared.
-fn is_squared(kind: u8) -> bool
-    ensures { result ≡ square kind }
-{
-    kind == 5 || kind == 18
-}
-
 // How many of the lines are of a kind.
-fn count(lines: &[Line], kind: u8) -> usize
-    ensures { result ≡ kind_count kind (plain lines.now) }
+fn count(lines: &[Line], kind: Kind) -> usize
+    ensures { result ≡ kind_count (number kind) (plain lines.now) }
 {
-    let mut n = 0;
-    for line in lines {
-        if line.fields().kind == kind {
-            n += 1;
-        }
-    }
-    n
+    lines.iter().filter(|line| line.is_of(kind)).count()
 }
 
 impl Filing {
     // Whether there is no room for one more line of a kind.
-    fn is_full(&self, kind: u8) -> bool
-        ensures { result ≡ full (plain self.now.lines.items) kind }
+    fn is_full(&self, kind: Kind) -> bool
+        ensures { result ≡ full (plain self.now.lines.items) (number kind) }
     {
-        if self.lines.len() >= MOST_LINES {
-            return true;
-        }
-        if !is_squared(kind) {
-            return false;
-        }
-        count(&self.lines, kind) >= MOST_SQUARED
+        self.lines.len() >= MOST_LINES
+            || (kind.is_squared() && count(&self.lines, kind) >= MOST_SQUARED)
     }
 
     /// One line more at the end.
@@ -56,7 +36,7 @@ impl Filing {
     {
         let number = self.lines.len() + 1;
         let line = Line::new(fields, number)?;
-        if self.is_full(fields.kind) {
+        if self.is_full(line.kind()) {
             return Err(FilingFault::Full(number));
         }
         self.lines.push_reserved(line);

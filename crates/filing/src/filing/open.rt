@@ -4,7 +4,7 @@ ghost use Rattle.filing.specs.Machine.{open_refusal, reopened};
 ghost use Rattle.filing.specs.Stands.{stands, told, NewlyOpened};
 
 use super::super::fault::{FilingFault, OpenFault};
-use super::Filing;
+use super::{Filing, MOST_LINES};
 use std::alloc::Global;
 use tables::Tables;
 
@@ -14,16 +14,14 @@ const LAST_YEAR: u16 = 4_095;
 
 const LAST_QUARTER: u8 = 4;
 
-const MOST_LINES: usize = 128;
-
 // Whether a filing may be of that year and quarter.
 fn judge(year: u16, quarter: u8) -> Result<(), FilingFault>
     ensures { told result ≡ answer (open_refusal year quarter) }
 {
-    if year < FIRST_YEAR || year > LAST_YEAR {
+    if !(FIRST_YEAR..=LAST_YEAR).contains(&year) {
         return Err(FilingFault::Year);
     }
-    if quarter == 0 || quarter > LAST_QUARTER {
+    if !(1..=LAST_QUARTER).contains(&quarter) {
         return Err(FilingFault::Quarter);
     }
     Ok(())

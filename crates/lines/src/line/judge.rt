@@ -1,4 +1,4 @@
-ghost use Rattle.std.specs.Prelude.{◌≡◌};
+ghost use Rattle.std.specs.Prelude.{◌≡◌, ◌==◌};
 ghost use Rattle.lines.specs.Held.{fields_of};
 ghost use Rattle.lines.specs.Kinds.{number};
 ghost use Rattle.lines.specs.Judged.{told, judged};
@@ -46,6 +46,13 @@ impl Line {
         ensures { number result ≡ (fields_of self.now).kind }
     {
         Kind::try_from(self.fields.kind).unwrap()
+    }
+
+    /// Whether it is of that kind.
+    pub fn is_of(&self, kind: Kind) -> bool
+        ensures { result ≡ ((fields_of self.now).kind == number kind) }
+    {
+        self.kind() == kind
     }
 
     /// Its fields.

@@ -1,4 +1,10 @@
 // The correlation tables of QIS3 in hundredths: the entries above the diagonal, row by row.
+ghost use Rattle.std.specs.Prelude.{◌≡◌};
+ghost use Rattle.tables.specs.Numbers.{number};
+ghost use Rattle.tables.specs.Replacing.{refusal};
+
+use tables::Which;
+
 // Market, default, life, health, non-life.
 const BASIC: [u8; 10] = [25, 25, 25, 25, 25, 25, 50, 25, 0, 0];
 
@@ -28,16 +34,17 @@ const BUSINESS: [u8; 105] = [
     50, 25, 25, 25, 25, 50, 25, 25, 25,
 ];
 
-/// The entries of the table with a number, from 1 to 7; none of another.
-pub(super) fn entries(table: u8) -> &'static [u8] {
-    match table {
-        1 => &BASIC,
-        2 => &MARKET,
-        3 => &EQUITY,
-        4 => &LIFE,
-        5 => &HEALTH,
-        6 => &NON_LIFE,
-        7 => &BUSINESS,
-        _ => &[],
+/// The entries of one of the tables; they make that table, with no refusal.
+pub fn entries(which: Which) -> &'static [u8]
+    ensures { refusal (number which) result.now ≡ None }
+{
+    match which {
+        Which::Basic => &BASIC,
+        Which::Market => &MARKET,
+        Which::Equity => &EQUITY,
+        Which::Life => &LIFE,
+        Which::Health => &HEALTH,
+        Which::NonLife => &NON_LIFE,
+        Which::Business => &BUSINESS,
     }
 }

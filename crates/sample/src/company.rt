@@ -1,5 +1,11 @@
-// What the bookkeeper enters: kind, class, rate, first and second amount of each line.
-pub const BOOK: [(u8, u8, u16, u32, u32); 45] = [
+ghost use Rattle.std.specs.Prelude.{◌≡◌, IsTrue, map};
+ghost use Rattle.std.specs.List.{list_all};
+ghost use Rattle.sample.specs.Book.{given, sound};
+
+use lines::Fields;
+
+// Kind, class, rate, first and second amount of each line.
+const BOOK: [(u8, u8, u16, u32, u32); 44] = [
     // interest
     (1, 1, 0, 412_350, 398_120),
     (1, 2, 0, 412_350, 427_900),
@@ -10,8 +16,6 @@ pub const BOOK: [(u8, u8, u16, u32, u32); 45] = [
     (2, 2, 0, 23_975, 0),
     // property
     (3, 0, 0, 51_200, 0),
-    // the same once more, with a digit lost: it is struck
-    (3, 0, 0, 5_120, 0),
     // spread
     (4, 1, 620, 90_500, 0),
     (4, 3, 1_250, 64_330, 0),
@@ -68,8 +72,10 @@ pub const BOOK: [(u8, u8, u16, u32, u32); 45] = [
     (25, 6, 0, 12_880, 0),
 ];
 
-// The number of the line that is struck.
-pub const STRUCK: usize = 8;
-
-// A line that is refused: its duration is over 50 years.
-pub const TOO_LONG: (u8, u8, u16, u32, u32) = (4, 3, 5_001, 1_000, 0);
+/// The company's lines, none of which breaks a rule of its kind.
+pub fn book() -> [Fields; 44]
+    ensures lines { result ≡ map given BOOK }
+    ensures sound { IsTrue (list_all sound result) }
+{
+    BOOK.map(Fields::from)
+}
