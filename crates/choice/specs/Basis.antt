@@ -1,9 +1,10 @@
 -- What a working out stands on, and what a choice of charges means. Assumes nothing.
-use Rattle.std.specs.Prelude.{ℕ, List, ◌++◌}
+use Rattle.std.specs.Prelude.{◌≡◌, ℕ, ◌<◌, ◌≤◌, List, ◌++◌, length, Some, None, Option}
 use Rattle.charges.specs.Meaning.{Meaning}
 use Rattle.lines.specs.declared.fields.Fields.{Fields}
+use Rattle.lines.specs.declared.line.Line.{Line}
 use Rattle.lines.specs.Held.{plain}
-use Rattle.tables.specs.declared.seven.Seven.{Seven}
+use Rattle.tables.specs.declared.named.NamedTables.{NamedTables}
 use Rattle.tables.specs.Standing.{in_order}
 use Rattle.choice.specs.declared.given.Given.{Given}
 
@@ -12,12 +13,17 @@ pub record Basis : Type 0 where
   pub lines : List Fields
   pub tables : List (ℕ → ℕ → ℕ)
 
-abbrev pub on : List Fields → Seven → Basis
+abbrev pub on : List Fields → NamedTables → Basis
 on ls ts = record { lines = ls; tables = in_order ts }
 
 -- of the values in the code
 abbrev pub basis : Given → Basis
 basis g = on (plain g.lines.now) g.tables.now
+
+-- at most 128 lines are taken
+abbrev pub Stood : List Line → NamedTables → Option Given → Type 0
+Stood ls ts None = 128 < length ls
+Stood ls ts (Some g) = (length ls ≤ 128) × (basis g ≡ on (plain ls) ts)
 
 -- the charges of figures 1 to 6, 7 to 13, 14 to 16, 17 and 18, and of 19 to 23, for all lines and tables
 pub record Chosen : Type 0 where

@@ -1,7 +1,7 @@
 ghost use Rattle.choice.specs.Basis.{basis};
 ghost use Rattle.choice.specs.Figured.{Figured};
 
-use super::beside::beside;
+use super::besides::beside;
 use super::choice::Choice;
 use super::given::Given;
 use charges::{Charges, TooLargeAt, work_out};

@@ -2,15 +2,15 @@ ghost use Rattle.lines.specs.Held.{plain};
 ghost use Rattle.lines.specs.Tally.{Tally};
 
 use lines::{Line, Totals};
-use tables::Seven;
+use tables::NamedTables;
 
-/// What charges are made from: lines with their totals, and seven tables.
+/// What charges are made from: at most 128 lines with their totals, and seven tables.
 #[derive(Clone, Copy)]
 pub struct Given<'a> {
     lines: &'a [Line],
-    totals: &'a Totals,
-    tables: &'a Seven,
-    ghost tallied: { Tally totals.now (plain lines.now) },
+    totals: Totals,
+    tables: &'a NamedTables,
+    ghost tallied: { Tally totals (plain lines.now) },
 }
 
 mod make;

@@ -1,15 +1,13 @@
-ghost use Rattle.std.specs.Prelude.{◌≡◌, List};
-ghost use Rattle.lines.specs.declared.fields.Fields.{Fields as Given};
+ghost use Rattle.std.specs.Prelude.{◌≡◌};
 ghost use Rattle.lines.specs.Kinds.{number};
-ghost use Rattle.lines.specs.Tally.{Tally};
+ghost use Rattle.choice.specs.Basis.{basis};
 ghost use Rattle.flat.specs.Flats.{flatly};
 ghost use Rattle.flat.specs.PerLine.{per_line, lines_of};
 ghost use Rattle.std.proofs.Common.{refl};
 
 use super::flat::Flat;
-use choice::Choice;
-use lines::{Kind, Line, Totals};
-use tables::Tables;
+use choice::{Choice, Given};
+use lines::Kind;
 
 /// Two flat charges.
 pub type Two = (Flat, (Flat, ()));
@@ -31,10 +29,10 @@ pub type Seven = (Flat, Six);
 pub struct PerLine;
 
 // As many units as lines of the kind stand.
-fn standing(totals: &Totals, kind: Kind) -> Flat
-    ensures { (ls : List Given) → Tally totals.now ls → flatly result ≡ lines_of (number kind) ls }
+fn standing(given: &Given, kind: Kind) -> Flat
+    ensures { flatly result ≡ lines_of (number kind) (basis given.now).lines }
 {
-    Flat::exactly(totals.lines(kind) as u32)
+    Flat::exactly(given.totals().lines(kind) as u32)
 }
 
 impl Choice for PerLine {
@@ -58,58 +56,58 @@ impl Choice for PerLine {
 
     ghost alike = { λ b c. refl };
 
-    fn market(_lines: &[Line], totals: &Totals, _tables: &Tables) -> Six {
+    fn market(given: &Given) -> Six {
         let last = (
-            standing(totals, Kind::Concentration),
-            (standing(totals, Kind::Currency), ()),
+            standing(given, Kind::Concentration),
+            (standing(given, Kind::Currency), ()),
         );
         let middle = (
-            standing(totals, Kind::Property),
-            (standing(totals, Kind::Spread), last),
+            standing(given, Kind::Property),
+            (standing(given, Kind::Spread), last),
         );
         (
-            standing(totals, Kind::Interest),
-            (standing(totals, Kind::Equity), middle),
+            standing(given, Kind::Interest),
+            (standing(given, Kind::Equity), middle),
         )
     }
 
-    fn life(_lines: &[Line], totals: &Totals, _tables: &Tables) -> Seven {
+    fn life(given: &Given) -> Seven {
         let last = (
-            standing(totals, Kind::Revision),
-            (standing(totals, Kind::LifeCatastrophe), ()),
+            standing(given, Kind::Revision),
+            (standing(given, Kind::LifeCatastrophe), ()),
         );
         let middle = (
-            standing(totals, Kind::Lapse),
-            (standing(totals, Kind::LifeExpense), last),
+            standing(given, Kind::Lapse),
+            (standing(given, Kind::LifeExpense), last),
         );
-        let disability = (standing(totals, Kind::Disability), middle);
+        let disability = (standing(given, Kind::Disability), middle);
         (
-            standing(totals, Kind::Mortality),
-            (standing(totals, Kind::Longevity), disability),
+            standing(given, Kind::Mortality),
+            (standing(given, Kind::Longevity), disability),
         )
     }
 
-    fn health(_lines: &[Line], totals: &Totals, _tables: &Tables) -> Three {
-        let last = (standing(totals, Kind::Accumulation), ());
+    fn health(given: &Given) -> Three {
+        let last = (standing(given, Kind::Accumulation), ());
         (
-            standing(totals, Kind::HealthExpense),
-            (standing(totals, Kind::HealthClaims), last),
+            standing(given, Kind::HealthExpense),
+            (standing(given, Kind::HealthClaims), last),
         )
     }
 
-    fn non_life(_lines: &[Line], totals: &Totals, _tables: &Tables) -> Two {
+    fn non_life(given: &Given) -> Two {
         (
-            standing(totals, Kind::PremiumReserve),
-            (standing(totals, Kind::Catastrophe), ()),
+            standing(given, Kind::PremiumReserve),
+            (standing(given, Kind::Catastrophe), ()),
         )
     }
 
-    fn basic(_lines: &[Line], totals: &Totals, _tables: &Tables) -> Five {
+    fn basic(given: &Given) -> Five {
         let fixed = Flat::exactly(100);
         (
             fixed,
             (
-                standing(totals, Kind::CounterpartyDefault),
+                standing(given, Kind::CounterpartyDefault),
                 (fixed, (fixed, (fixed, ()))),
             ),
         )

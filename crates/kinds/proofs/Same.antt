@@ -1,6 +1,23 @@
 -- Equal parts make equal charges. Assumes nothing.
-use Rattle.std.proofs.Common.{◌≡◌, ℕ, List, ◌∷◌, ap, ◌∙◌}
+use Rattle.std.proofs.Common.{◌≡◌, ℕ, List, ◌∷◌, ◌++◌, Result, ap, ◌∙◌}
+use Rattle.roots.specs.declared.table.Table.{Table}
+use Rattle.roots.specs.Held.{correlation}
+use Rattle.charges.specs.declared.beside.Beside.{Beside}
+use Rattle.charges.specs.declared.charge.TooLargeAt.{TooLargeAt}
+use Rattle.charges.specs.Worked.{Answered}
 use Rattle.charges.specs.Meaning.{Meaning, module_of}
+use Rattle.tables.specs.declared.named.NamedTables.{NamedTables}
+use Rattle.tables.specs.Standing.{table, in_order}
 
 pub cons : (x y : Meaning) (xs ys : List Meaning) → x ≡ y → xs ≡ ys → (x ∷ xs) ≡ (y ∷ ys)
 cons x y xs ys p q = ap (λ (m : Meaning). m ∷ xs) p ∙ ap (λ (l : List Meaning). y ∷ l) q
+
+-- the module of charges under the table with a number
+pub module_same : (number : ℕ) (ts : NamedTables) (all : List (ℕ → ℕ → ℕ)) (t u : Table) (xs ys : List Meaning) → in_order ts ≡ all → t ≡ u → correlation u ≡ table (in_order ts) number → xs ≡ ys → module_of (correlation t) xs ≡ module_of (table all number) ys
+module_same number ts all t u xs ys is same own q =
+    ap (λ (e : ℕ → ℕ → ℕ). module_of e xs) (ap correlation same ∙ own ∙ ap (λ (l : List (ℕ → ℕ → ℕ)). table l number) is)
+    ∙ ap (λ (l : List Meaning). module_of (table all number) l) q
+
+-- the formula's answer, with what each of its parts means put in its place
+pub answered_same : (e : ℕ → ℕ → ℕ) (t u : Beside) (a a' b b' c c' d d' m m' : List Meaning) (before after : List (ℕ × ℕ)) (r : Result (Unit {0}) TooLargeAt) → t ≡ u → a ≡ a' → b ≡ b' → c ≡ c' → d ≡ d' → m ≡ m' → Answered e t (a ++ b ++ c ++ d) m before after r → Answered e u (a' ++ b' ++ c' ++ d') m' before after r
+answered_same e t u a a' b b' c c' d d' m m' before after r o p q s v w h = rw (← o, ← p, ← q, ← s, ← v, ← w) h

@@ -9,7 +9,7 @@ use Rattle.charges.specs.Meaning.{Meaning, widths, module_of}
 use Rattle.lines.specs.declared.fields.Fields.{Fields}
 use Rattle.lines.specs.Totals.{total}
 use Rattle.kinds.specs.declared.businesses.Businesses.{Businesses}
-use Rattle.kinds.specs.Means.{businesses}
+use Rattle.kinds.specs.Means.{BasicParts, businesses, market_means, life_means, health_means, basic_parts}
 use Rattle.kinds.specs.Ours.{businesses_from}
 use Rattle.kinds.specs.Finer.{total_linear}
 use Rattle.kinds.specs.Matches.{rate_exactly}
@@ -48,3 +48,11 @@ businesses_are (suc n) c (v ∷ vs) ls h at_k =
 -- the charge of one line of business
 pub business_at : (vs : List ℕ) (i : ℕ) (d : Meaning) → i < length vs → slice_index_or (map (λ v. rate v 3 10000) vs) i d ≡ rate (slice_index vs i) 3 10000
 business_at vs i d h = get_or-map (λ v. rate v 3 10000) vs i 0 d h
+
+-- the widths of the members of the basic SCR depend on no amount
+pub basic_alike : (a b : BasicParts) → widths (basic_parts a) ≡ widths (basic_parts b)
+basic_alike a b =
+    let volumes = λ (m : BasicParts). m.1.1.1.1.0.members.0.members in
+    ap₂ (λ (n w : ℕ). (market_means a.0).width ∷ 1 ∷ (life_means a.1.1.0).width ∷ (health_means a.1.1.1.0).width ∷ (1 + ceiling_root 2 * ((1 + ceiling_root n * w) + (1 + 0))) ∷ [])
+    (count_fifteen (volumes a) ∙ sym (count_fifteen (volumes b)))
+    (widths_fifteen (volumes a) ∙ sym (widths_fifteen (volumes b)))

@@ -1,11 +1,9 @@
 -- Our charges of figures 1 to 23, from what stands: lines, and tables by their numbers. Assumes nothing.
 use Rattle.std.specs.Prelude.{ℕ, zero, suc, List, [], ◌∷◌}
-use Rattle.roots.specs.Held.{correlation}
 use Rattle.charges.specs.Meaning.{Meaning, module_of}
 use Rattle.lines.specs.declared.fields.Fields.{Fields}
 use Rattle.tables.specs.Standing.{table}
 use Rattle.choice.specs.Basis.{Basis, Chosen}
-use Rattle.kinds.specs.declared.named.Tables.{Tables}
 use Rattle.kinds.specs.Exact.{exactly, interest, global_equity, other_equity, property, spread, currency, life, volume, business, root_of_squares}
 
 -- lines of business from class c on
@@ -15,12 +13,6 @@ businesses_from (suc n) c ls = exactly 1 (business c) ls ∷ businesses_from n (
 
 abbrev pub all_businesses : List Fields → List Meaning
 all_businesses ls = businesses_from 15 1 ls
-
--- the seven tables in the order of their numbers
-abbrev pub in_order : Tables → List (ℕ → ℕ → ℕ)
-in_order ts =
-    correlation ts.basic ∷ correlation ts.market ∷ correlation ts.equity ∷ correlation ts.life ∷
-    correlation ts.health ∷ correlation ts.non_life ∷ correlation ts.business ∷ []
 
 module _ (b : Basis) where
   abbrev pub equity : Meaning

@@ -3,13 +3,10 @@
 
 mod businesses;
 mod leaves;
-mod made;
+mod maker;
 mod modules;
-mod named;
-mod named_module;
 mod ours;
 mod worked;
 
-pub use named::Tables;
 pub use ours::Ours;
 pub use worked::figures;

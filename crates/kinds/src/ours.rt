@@ -1,15 +1,29 @@
 ghost use Rattle.std.specs.Prelude.{◌≡◌};
-ghost use Rattle.std.proofs.Common.{refl};
+ghost use Rattle.std.proofs.Common.{refl, lit≤};
+ghost use Rattle.lines.specs.Tally.{Tally};
+ghost use Rattle.tables.specs.Standing.{in_order};
+ghost use Rattle.choice.specs.Basis.{basis};
 ghost use Rattle.kinds.specs.Ours.{ours};
 
-use super::made::{basic, health, life, market, nonlife};
-use super::modules::{BasicParts, HealthParts, LifeParts, MarketParts, NonLifeParts};
-use choice::{Choice, Given, Lists, Source};
+use super::maker::Maker;
+use super::modules::{Basic, HealthParts, LifeParts, MarketParts, NonLifeParts};
+use choice::{Choice, Given};
 
 /// Our own charges.
 pub struct Ours;
 
-impl Lists for Ours {
+// Of what is given, our charges need the totals and the tables.
+fn maker<'a>(given: &'a Given) -> Maker<'a>
+    ensures totals { Tally result.totals.now (basis given.now).lines }
+    ensures tables { in_order result.tables.now ≡ (basis given.now).tables }
+{
+    Maker {
+        totals: given.totals(),
+        tables: given.tables(),
+    }
+}
+
+impl Choice for Ours {
     type Market = MarketParts;
 
     type Life = LifeParts;
@@ -18,37 +32,35 @@ impl Lists for Ours {
 
     type NonLife = NonLifeParts;
 
-    type Basic = BasicParts;
+    type Basic = Basic;
+
+    ghost meaning = { ours };
 
     ghost shown = { refl };
 
     ghost five = { refl };
 
-    ghost proper = { ((tt, (tt, (tt, (tt, (tt, (tt, tt)))))), (tt, (tt, (tt, (tt, (tt, (tt, (tt, tt))))))), (tt, (tt, (tt, tt))), (tt, (tt, tt)), (tt, (tt, (tt, (tt, (tt, tt)))))) };
-}
-
-impl<S: Source> Choice<S> for Ours {
-    ghost meaning = { ours };
+    ghost proper = { ((tt, ((lit≤ tt, lit≤ tt, (tt, (tt, tt))), (tt, (tt, (tt, (tt, tt)))))), (tt, (tt, (tt, (tt, (tt, (tt, (tt, tt))))))), (tt, (tt, (tt, tt))), ((lit≤ tt, lit≤ tt, tt), (tt, tt)), tt) };
 
     ghost alike = { λ b c. refl };
 
-    fn market(given: &Given<S>) -> MarketParts {
-        market(given)
+    fn market(given: &Given) -> MarketParts {
+        maker(given).market()
     }
 
-    fn life(given: &Given<S>) -> LifeParts {
-        life(given)
+    fn life(given: &Given) -> LifeParts {
+        maker(given).life()
     }
 
-    fn health(given: &Given<S>) -> HealthParts {
-        health(given)
+    fn health(given: &Given) -> HealthParts {
+        maker(given).health()
     }
 
-    fn non_life(given: &Given<S>) -> NonLifeParts {
-        nonlife(given)
+    fn non_life(given: &Given) -> NonLifeParts {
+        maker(given).non_life()
     }
 
-    fn basic(given: &Given<S>) -> BasicParts {
-        basic(given)
+    fn basic(given: &Given) -> Basic {
+        maker(given).basic()
     }
 }

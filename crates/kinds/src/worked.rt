@@ -1,26 +1,36 @@
-ghost use Rattle.std.specs.Prelude.{◌≡◌};
+ghost use Rattle.std.specs.Prelude.{◌≡◌, List};
 ghost use Rattle.charges.specs.Meaning.{widths};
+ghost use Rattle.lines.specs.declared.fields.Fields.{Fields as Given};
 ghost use Rattle.lines.specs.Tally.{Tally};
-ghost use Rattle.choice.specs.Basis.{Basis};
+ghost use Rattle.choice.specs.Basis.{Basis, on};
 ghost use Rattle.choice.specs.Figured.{Figured, all_figures};
 ghost use Rattle.kinds.specs.Examples.{Examples};
 ghost use Rattle.kinds.specs.Ours.{ours, our_widths};
 
-use super::ours::Ours;
-use charges::TooLargeAt;
-use choice::{Source, figures_by};
+use super::maker::Maker;
+use charges::{Charges, TooLargeAt, work_out};
+use choice::beside;
 use lines::Totals;
+use tables::NamedTables;
 
 /// The 28 figures by our charges, with their greatest widths as numbers; what the definitions give is
 /// checked against rows worked by hand.
-pub fn figures<S: Source>(
+pub fn figures(
     totals: &Totals,
-    source: &S,
+    tables: &NamedTables,
     place: &mut [(u32, u32); 28],
 ) -> Result<(), TooLargeAt>
-    ensures answer { (b : Basis) → Tally totals.now b.lines → S.Source.stands_for source.now b → Figured ours b place.old place.new result }
+    ensures answer { (ls : List Given) → Tally totals.now ls → Figured ours (on ls tables.now) place.old place.new result }
     ensures width { (b : Basis) → widths (all_figures ours b) ≡ our_widths }
     ensures worked { Examples }
 {
-    figures_by::<S, Ours>(totals, source, place)
+    let maker = Maker { totals, tables };
+    let charges = Charges {
+        market: maker.market(),
+        life: maker.life(),
+        health: maker.health(),
+        non_life: maker.non_life(),
+        basic: maker.basic(),
+    };
+    work_out(&charges, &tables.basic, &beside(totals), place)
 }

@@ -1,3 +1,4 @@
 mod Seven
 mod Known
 mod Replaced
+mod InOrder

@@ -3,14 +3,14 @@
 use Rattle.std.specs.Prelude.{ℕ, ◌-◌, List, [], ◌∷◌, map, slice_index_or}
 use Rattle.roots.specs.Cells.{identity}
 use Rattle.roots.specs.Held.{correlation}
-use Rattle.tables.specs.declared.seven.Seven.{Seven}
+use Rattle.tables.specs.declared.named.NamedTables.{NamedTables}
 use Rattle.tables.specs.declared.tables.Tables.{Tables}
 
 abbrev pub entries : Tables → List (ℕ → ℕ → ℕ)
 entries ts = map correlation ts.all
 
 -- seven tables by their names, in the order of their numbers
-abbrev pub in_order : Seven → List (ℕ → ℕ → ℕ)
+abbrev pub in_order : NamedTables → List (ℕ → ℕ → ℕ)
 in_order ts =
     correlation ts.basic ∷ correlation ts.market ∷ correlation ts.equity ∷ correlation ts.life ∷
     correlation ts.health ∷ correlation ts.non_life ∷ correlation ts.business ∷ []

@@ -2,11 +2,11 @@
 #![tactic(auto)]
 
 mod fault;
-mod seven;
+mod named;
 mod tables;
 mod which;
 
 pub use fault::EntriesFault;
-pub use seven::Seven;
+pub use named::NamedTables;
 pub use tables::Tables;
 pub use which::{UnknownTable, Which};

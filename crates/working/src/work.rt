@@ -7,9 +7,9 @@ ghost use Rattle.filing.specs.Stands.{stands, told};
 ghost use Rattle.working.specs.Figures.{work_out_refusal, Worked, OneWorked, number_of};
 
 use super::figure::Figure;
-use choice::{Choice, figures_by};
+use choice::{Choice, Given, figures_by};
 use filing::{Filing, FilingFault};
-use lines::Totals;
+use tables::NamedTables;
 
 /// What has figures to be worked out.
 pub trait WorkOut {
@@ -26,24 +26,16 @@ pub trait WorkOut {
         ensures { OneWorked C.Choice.meaning (standing self.now) (number_of figure) result };
 }
 
-// The totals of a filing's lines.
-fn totals(filing: &Filing) -> Totals
-    ensures { Tally result (stands filing.now).lines }
-{
-    match Totals::of(filing.lines()) {
-        Some(totals) => totals,
-        None => unreachable(),
-    }
-}
-
 impl WorkOut for Filing {
     ghost standing = { stands };
 
     fn work_out<C: Choice>(&self, place: &mut [(u32, u32); 28]) -> Result<(), FilingFault> {
-        match figures_by::<C>(self.lines(), &totals(self), self.tables(), place) {
-            Ok(()) => Ok(()),
-            Err(at) => Err(FilingFault::TooLarge(at.0)),
-        }
+        let tables = NamedTables::from(*self.tables());
+        let Some(given) = Given::new(self.lines(), &tables) else {
+            unreachable()
+        };
+        figures_by::<C>(&given, place)?;
+        Ok(())
     }
 
     fn figure<C: Choice>(&self, figure: Figure) -> Result<(u32, u32), FilingFault> {

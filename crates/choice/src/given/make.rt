@@ -1,42 +1,43 @@
 ghost use Rattle.std.specs.Prelude.{◌≡◌};
 ghost use Rattle.lines.specs.Held.{plain};
 ghost use Rattle.lines.specs.Tally.{Tally};
-ghost use Rattle.choice.specs.Basis.{basis, on};
+ghost use Rattle.tables.specs.Standing.{in_order};
+ghost use Rattle.choice.specs.Basis.{basis, Stood};
 
 use super::Given;
 use lines::{Line, Totals};
-use tables::Seven;
+use tables::NamedTables;
 
 impl<'a> Given<'a> {
-    /// Lines, their totals, and tables.
-    pub fn new(lines: &'a [Line], totals: &'a Totals, tables: &'a Seven) -> Given<'a>
-        requires { Tally totals.now (plain lines.now) }
-        ensures { basis result ≡ on (plain lines.now) tables.now }
+    /// Lines and tables, or `None` of more than 128 lines.
+    pub fn new(lines: &'a [Line], tables: &'a NamedTables) -> Option<Given<'a>>
+        ensures { Stood lines.now tables.now result }
     {
-        Given {
+        let totals = Totals::of(lines)?;
+        Some(Given {
             lines,
             totals,
             tables,
-        }
+        })
     }
 
     /// The lines.
-    pub fn lines(&self) -> &'a [Line]
+    pub fn lines(&self) -> &[Line]
         ensures { plain result.now ≡ (basis self.now).lines }
     {
         self.lines
     }
 
     /// Their totals.
-    pub fn totals(&self) -> &'a Totals
+    pub fn totals(&self) -> &Totals
         ensures { Tally result.now (basis self.now).lines }
     {
-        self.totals
+        &self.totals
     }
 
     /// The tables.
-    pub fn tables(&self) -> &'a Seven
-        ensures { on (basis self.now).lines result.now ≡ basis self.now }
+    pub fn tables(&self) -> &NamedTables
+        ensures { in_order result.now ≡ (basis self.now).tables }
     {
         self.tables
     }

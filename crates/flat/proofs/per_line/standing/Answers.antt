@@ -5,6 +5,6 @@ use Rattle.flat.specs.Flats.{flat}
 use Rattle.flat.proofs.per_line.standing.Goals as goal
 
 pub returns : goal.returns
-returns c = λ ls tally.
-    let count = c.lines.ensures.value ∙ sum_eq 16 _ _ (tally.counts (number c.args.kind)) in
+returns c =
+    let count = c.lines.ensures.value ∙ sum_eq 16 _ _ (c.totals.ensures.counts (number c.args.kind)) in
     ap (λ (p : ℕ × ℕ). flat p.0 p.1) c.exactly.ensures ∙ ap (λ (n : ℕ). flat n n) count

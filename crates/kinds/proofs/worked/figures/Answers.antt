@@ -1,9 +1,10 @@
 use Rattle.std.proofs.Common.{◌≡◌, refl}
 use Rattle.roots.specs.Root.{lower, upper, root_by}
 use Rattle.charges.specs.Meaning.{widths}
-use Rattle.choice.specs.Basis.{Basis}
+use Rattle.choice.specs.Basis.{Basis, on}
 use Rattle.choice.specs.Figured.{all_figures}
 use Rattle.kinds.specs.Ours.{ours, our_widths}
+use Rattle.kinds.proofs.Same.{answered_same}
 use Rattle.kinds.proofs.ByHand.{by_hand}
 use Rattle.kinds.proofs.worked.figures.Goals as goal
 
@@ -11,5 +12,13 @@ widths_are : (b : Basis) → widths (all_figures ours b) ≡ our_widths
 unfolding upper lower root_by
 widths_are b = refl
 
-pub returns : goal.returns
-returns g c = record { answer = c.figures_by.ensures; width = widths_are; worked = by_hand }
+pub returns-clause-answer : goal.returns-clause-answer
+returns-clause-answer c = λ ls tally.
+    let b = on ls c.args.tables.now in
+    answered_same _ _ _ _ _ _ _ _ _ _ _ _ _ _ _ _ (c.beside.ensures ls tally) (c.market.ensures b tally refl) (c.life.ensures b tally refl) (c.health.ensures b tally refl) (c.non_life.ensures b tally refl) (c.basic.ensures b tally refl) c.work_out.ensures
+
+pub returns-clause-width : goal.returns-clause-width
+returns-clause-width c = widths_are
+
+pub returns-clause-worked : goal.returns-clause-worked
+returns-clause-worked c = by_hand

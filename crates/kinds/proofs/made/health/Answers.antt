@@ -1,7 +1,0 @@
-use Rattle.std.proofs.Common.{refl}
-use Rattle.kinds.proofs.Same.{cons}
-use Rattle.kinds.proofs.made.health.Goals as goal
-
-pub returns : goal.returns
-returns g c = λ b tally stands.
-    cons _ _ _ _ (c.part-expense.ensures b.lines tally) (cons _ _ _ _ (c.part-claims.ensures b.lines tally) (cons _ _ _ _ (c.part-accumulation.ensures b.lines tally) (refl)))
