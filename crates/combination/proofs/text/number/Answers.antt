@@ -1,17 +1,11 @@
-use Rattle.std.proofs.Common.{◌≡◌, ℕ, ◌+◌, ◌-◌, ◌*◌, ◌^◌, min, Bool, true, false, cond, ◌&&◌, leb, List, ◌∷◌, get_or, drop, Some, None, sym, refl, ap, ◌∙◌, arith}
-use Rattle.std.proofs.lemmas.List.{at_drop_more, at_drop_all}
+use Rattle.std.proofs.Common.{◌≡◌, ℕ, ◌+◌, ◌-◌, ◌*◌, ◌^◌, min, true, ◌&&◌, leb, List, ◌∷◌, get_or, drop, sym, refl, ap, ◌∙◌, arith}
+use Rattle.std.proofs.lemmas.List.{at_drop_more}
 use Rattle.combination.specs.Reading.{digits, number_behind}
 use Rattle.combination.proofs.Digits.{capped}
 use Rattle.combination.proofs.text.number.Goals as goal
 
 digit : (b : ℕ) (bs : List ℕ) → (leb 48 b && leb b 57) ≡ true → digits (b ∷ bs) ≡ digits bs
 digit b bs e = rw e refl
-
-no_digit : (b : ℕ) (bs : List ℕ) → (leb 48 b && leb b 57) ≡ false → digits (b ∷ bs) ≡ false
-no_digit b bs e = rw e refl
-
-refused : (b : Bool) (n : ℕ) → b ≡ false → None ≡ cond b (Some n) None
-refused b n e = rw e
 
 pub loop-b-preserved : goal.loop-b-preserved
 loop-b-preserved c =
@@ -28,21 +22,3 @@ loop-b-preserved c =
           ∙ ap (λ v. min (number_behind v (drop (i + 1) w)) limit) (sym value),
       omega (arith, value),
     )
-
-pub returns-then-not-is_ascii_digit : goal.returns-then-not-is_ascii_digit
-returns-then-not-is_ascii_digit c =
-    let w = c.args.word.now in
-    let i = c.loop-b.b-index in
-    refused (digits w) _ (c.loop-b.invariant.0 ∙ at_drop_more digits w i 0 c.loop-b-test.true ∙ no_digit (get_or w i 0) (drop (i + 1) w) (sym c.is_ascii_digit.ensures.value ∙ c.if-not-is_ascii_digit.true))
-
-taken : (b : Bool) (m n : ℕ) → b ≡ true → n ≡ m → Some n ≡ cond b (Some m) None
-taken b m n e f = rw (e, f)
-
-pub returns : goal.returns
-returns c =
-    let w = c.args.word.now in
-    let i = c.loop-b.b-index in
-    let n = c.loop-b.n in
-    let limit = 2 ^ 32 - 1 in
-    let value = c.loop-b.invariant.1 ∙ at_drop_all (λ ds. min (number_behind n ds) limit) w i c.loop-b-test.false in
-    taken (digits w) _ n (c.loop-b.invariant.0 ∙ at_drop_all digits w i c.loop-b-test.false) (omega (arith, value, c.loop-b.invariant.2))
