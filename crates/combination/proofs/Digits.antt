@@ -1,7 +1,7 @@
 -- A number read digit by digit, with its value kept within a limit. Assumes nothing.
-use Rattle.std.proofs.Common.{◌≡◌, ℕ, ◌+◌, ◌-◌, ◌*◌, ◌<◌, ◌≤◌, min, Bool, true, false, cond, List, [], ◌∷◌, sym, refl, ap, ◌∙◌, arith}
+use Rattle.std.proofs.Common.{◌≡◌, ℕ, ◌+◌, ◌-◌, ◌*◌, ◌≤◌, min, List, [], ◌∷◌, ap, arith}
 use native.Mathlib.Decide.{dec_le}
-use Rattle.combination.specs.Reading.{digits, number_behind}
+use Rattle.combination.specs.Reading.{number_behind}
 
 behind_ge : (n : ℕ) (ds : List ℕ) → n ≤ number_behind n ds
 behind_ge n [] = omega arith

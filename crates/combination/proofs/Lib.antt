@@ -2,3 +2,4 @@ mod Words
 mod Digits
 mod Listing
 mod Judging
+mod Turns

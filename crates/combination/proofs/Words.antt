@@ -1,57 +1,80 @@
--- Lines and words, by the runs of bytes that they are. Assumes nothing.
-use Rattle.std.proofs.Common.{◌≡◌, ℕ, zero, suc, ◌+◌, ◌<◌, Bool, true, false, cond, not, List, [], ◌∷◌, length, take, drop, sym, refl, ◌∙◌, ap₂, one-add, arith}
-use Rattle.std.specs.List.{prefix_len}
-use Rattle.combination.specs.declared.text.Kind.TheVariants.{Blank, Solid, Line}
-use Rattle.combination.specs.Reading.{before, behind, newline, blank, of_kind, line, after_line, word_before, later_words, words}
+-- Lines and words, as they are cut out of a text. Assumes nothing.
+use Rattle.std.proofs.Common.{◌≡◌, ℕ, suc, ◌+◌, ◌-◌, ◌≤◌, Bool, true, false, cond, not, eqb, ltb, List, [], ◌∷◌, length, take, drop, Some, None, Option, sym, refl, ap, ◌∙◌, one-add, arith}
+use Rattle.std.proofs.lemmas.Bool.Decides.{nat_tests}
+use Rattle.std.proofs.lemmas.List.{take_all, take_rest, drop_all}
+use Rattle.std.proofs.lemmas.Option.{cond_some}
+use Rattle.std.specs.List.{position_or_len, slice_split, filter, list_any}
+use Rattle.combination.specs.Reading.{before, behind, blank, word_before, later_words, words}
 
--- the bytes before the first that passes are a run of those that do not
+-- the bytes before the first that passes, and those behind it
 module _ (p : ℕ → Bool) where
-  pub before_run : (bs : List ℕ) → take (prefix_len (λ b. not (p b)) bs) bs ≡ before p bs
-  before_run [] = refl
-  before_run (b ∷ bs) = step (p b) b bs (prefix_len (λ c. not (p c)) bs) (before_run bs)
+  pub before_first : (bs : List ℕ) → take (position_or_len p bs) bs ≡ before p bs
+  before_first [] = refl
+  before_first (b ∷ bs) = step (p b) b bs (position_or_len p bs) (before_first bs)
     where
       step : (t : Bool) (b : ℕ) (bs : List ℕ) (n : ℕ) → take n bs ≡ before p bs → take (cond (not t) (1 + n) 0) (b ∷ bs) ≡ cond t [] (b ∷ before p bs)
       step true b bs n h = refl
       step false b bs n h = rw (one-add, h)
 
-  pub behind_run : (bs : List ℕ) → drop 1 (drop (prefix_len (λ b. not (p b)) bs) bs) ≡ behind p bs
-  behind_run [] = refl
-  behind_run (b ∷ bs) = step (p b) b bs (prefix_len (λ c. not (p c)) bs) (behind_run bs)
+  pub behind_first : (bs : List ℕ) → drop (position_or_len p bs + 1) bs ≡ behind p bs
+  behind_first [] = refl
+  behind_first (b ∷ bs) = step (p b) b bs (position_or_len p bs) (behind_first bs)
     where
-      step : (t : Bool) (b : ℕ) (bs : List ℕ) (n : ℕ) → drop 1 (drop n bs) ≡ behind p bs → drop 1 (drop (cond (not t) (1 + n) 0) (b ∷ bs)) ≡ cond t bs (behind p bs)
+      step : (t : Bool) (b : ℕ) (bs : List ℕ) (n : ℕ) → drop (n + 1) bs ≡ behind p bs → drop (cond (not t) (1 + n) 0 + 1) (b ∷ bs) ≡ cond t bs (behind p bs)
       step true b bs n h = refl
-      step false b bs n h = rw (one-add, h)
+      step false b bs n h = (let e : 1 + n + 1 ≡ suc (n + 1) = omega arith in rw e h)
 
--- blanks in front make no word
-pub words_skip : (bs : List ℕ) → words (drop (prefix_len (of_kind Blank) bs) bs) ≡ words bs
-words_skip [] = refl
-words_skip (b ∷ bs) = step (blank b) b bs (prefix_len (of_kind Blank) bs) refl (words_skip bs)
+-- a text that is cut at what `position` answers
+module _ (p : ℕ → Bool) (bs : List ℕ) where
+  abbrev pub answered : Option ℕ
+  answered = cond (ltb (position_or_len p bs) (length bs)) (Some (position_or_len p bs)) None
+
+  pub cut : (i : ℕ) → answered ≡ Some i → (take i bs ≡ before p bs) × (take (length bs - (i + 1)) (drop (i + 1) bs) ≡ behind p bs)
+  cut i e =
+      let same : position_or_len p bs ≡ i = (cond_some _ _ _ e).1 in
+      (ap (λ n. take n bs) (sym same) ∙ before_first p bs, take_rest bs (i + 1) ∙ ap (λ n. drop (n + 1) bs) (sym same) ∙ behind_first p bs)
+
+  pub whole : answered ≡ None → (bs ≡ before p bs) × ([] ≡ behind p bs)
+  whole e =
+      let past : length bs ≤ position_or_len p bs = grind (arith, nat_tests) in
+      (sym (take_all _ bs past) ∙ before_first p bs, sym (drop_all _ bs (omega arith)) ∙ behind_first p bs)
+
+-- some byte is no blank just where a word stands
+pub any_words : (bs : List ℕ) → list_any (λ b. not (blank b)) bs ≡ ltb 0 (length (words bs))
+any_words [] = grind (arith, nat_tests)
+any_words (b ∷ bs) = step (blank b) refl (any_words bs)
   where
-    step : (t : Bool) (b : ℕ) (bs : List ℕ) (n : ℕ) → blank b ≡ t → words (drop n bs) ≡ words bs → words (drop (cond t (1 + n) 0) (b ∷ bs)) ≡ words (b ∷ bs)
-    step true b bs n e h = rw (one-add, h, e)
-    step false b bs n e h = refl
+    step : (t : Bool) → blank b ≡ t → list_any (λ c. not (blank c)) bs ≡ ltb 0 (length (words bs)) → list_any (λ c. not (blank c)) (b ∷ bs) ≡ ltb 0 (length (words (b ∷ bs)))
+    step true e h = rw e h
+    step false e h = rw e (grind (arith, nat_tests))
 
--- behind the run of the first word stand the words behind the first blank
-later_run : (bs : List ℕ) → words (drop (prefix_len (of_kind Solid) bs) bs) ≡ later_words bs
-later_run [] = refl
-later_run (b ∷ bs) = step (blank b) b bs (prefix_len (of_kind Solid) bs) refl (later_run bs)
+-- the parts between the blanks, of which those with a byte are the words
+abbrev pub full : List ℕ → Bool
+full w = not (eqb (length w) 0)
+
+full_before : (w : List ℕ) (ws : List (List ℕ)) → filter full (w ∷ ws) ≡ word_before w (filter full ws)
+full_before [] ws = grind (arith, nat_tests)
+full_before (b ∷ bs) ws = grind (arith, nat_tests)
+
+parts : (bs : List ℕ) → (rest : List (List ℕ)) × (slice_split blank bs ≡ before blank bs ∷ rest) × (filter full rest ≡ later_words bs)
+parts [] = ([], refl, refl)
+parts (b ∷ bs) = let r = parts bs in step (blank b) refl r.0 r.1 r.2
   where
-    step : (t : Bool) (b : ℕ) (bs : List ℕ) (n : ℕ) → blank b ≡ t → words (drop n bs) ≡ later_words bs → words (drop (cond (not t) (1 + n) 0) (b ∷ bs)) ≡ cond t (words bs) (later_words bs)
-    step true b bs n e h = rw e
-    step false b bs n e h = rw (one-add, h)
+    step : (t : Bool) → blank b ≡ t → (rest : List (List ℕ)) → slice_split blank bs ≡ before blank bs ∷ rest → filter full rest ≡ later_words bs → (more : List (List ℕ)) × (slice_split blank (b ∷ bs) ≡ before blank (b ∷ bs) ∷ more) × (filter full more ≡ later_words (b ∷ bs))
+    step true e rest h k = (before blank bs ∷ rest, rw (e, h), rw e (full_before (before blank bs) rest ∙ ap (word_before (before blank bs)) k))
+    step false e rest h k = (rest, rw (e, h), rw (e, k))
 
-pub words_run : (bs : List ℕ) → words bs ≡ word_before (take (prefix_len (of_kind Solid) bs) bs) (words (drop (prefix_len (of_kind Solid) bs) bs))
-words_run bs = sym (ap₂ word_before (before_run blank bs) (later_run bs))
+pub words_split : (bs : List ℕ) → filter full (slice_split blank bs) ≡ words bs
+words_split bs = let r = parts bs in ap (filter full) r.1 ∙ full_before (before blank bs) r.0 ∙ ap (word_before (before blank bs)) r.2
 
-pub word_some : (w : List ℕ) (ws : List (List ℕ)) → 0 < length w → word_before w ws ≡ w ∷ ws
-word_some [] ws h = absurd (let z : ⊥ = omega arith in z)
-word_some (b ∷ bs) ws h = refl
-
--- where no word begins behind the blanks, nothing stands there
-pub nothing_left : (bs : List ℕ) → prefix_len (of_kind Solid) (drop (prefix_len (of_kind Blank) bs) bs) ≡ 0 → drop (prefix_len (of_kind Blank) bs) bs ≡ []
-nothing_left [] h = refl
-nothing_left (b ∷ bs) h = step (blank b) b bs (prefix_len (of_kind Blank) bs) refl (nothing_left bs) h
+-- no more words than bytes
+later_few : (bs : List ℕ) → (length (words bs) ≤ length bs) × (length (later_words bs) ≤ length bs)
+later_few [] = (omega arith, omega arith)
+later_few (b ∷ bs) = let r = later_few bs in step (blank b) refl r.0 r.1
   where
-    step : (t : Bool) (b : ℕ) (bs : List ℕ) (n : ℕ) → blank b ≡ t → (prefix_len (of_kind Solid) (drop n bs) ≡ 0 → drop n bs ≡ []) → prefix_len (of_kind Solid) (drop (cond t (1 + n) 0) (b ∷ bs)) ≡ 0 → drop (cond t (1 + n) 0) (b ∷ bs) ≡ []
-    step true b bs n e f h = rw one-add (f (rw one-add at h))
-    step false b bs n e f h = absurd (let k : 1 + prefix_len (of_kind Solid) bs ≡ 0 = rw e at h in let z : ⊥ = omega arith in z)
+    step : (t : Bool) → blank b ≡ t → length (words bs) ≤ length bs → length (later_words bs) ≤ length bs → (length (words (b ∷ bs)) ≤ suc (length bs)) × (length (later_words (b ∷ bs)) ≤ suc (length bs))
+    step true e h k = (rw e (omega arith), rw e (omega arith))
+    step false e h k = (rw e (omega arith), rw e (omega arith))
+
+pub words_few : (bs : List ℕ) → length (words bs) ≤ length bs
+words_few bs = (later_few bs).0

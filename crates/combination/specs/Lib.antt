@@ -3,3 +3,4 @@ pub mod Listed
 pub mod Judged
 pub mod Parts
 pub mod Texts
+pub mod Replies

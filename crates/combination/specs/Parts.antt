@@ -1,5 +1,5 @@
 -- What the two lines give, and the reply. Assumes nothing.
-use Rattle.std.specs.Prelude.{◌≡◌, ℕ, Bool, List, length, Ok, Err, Result}
+use Rattle.std.specs.Prelude.{◌≡◌, ℕ, List, length, Ok, Err, Result}
 use Rattle.roots.specs.declared.amounts.Amounts.{Amounts}
 use Rattle.roots.specs.declared.amounts.AmountFault.{AmountFault}
 use Rattle.roots.specs.declared.amounts.AmountFault.TheVariants as amount

@@ -1,8 +1,6 @@
 -- From bytes to lines, words and numbers. Assumes nothing.
-use Rattle.std.specs.Prelude.{ℕ, ◌+◌, ◌-◌, ◌*◌, min, Bool, true, false, cond, not, ◌&&◌, ◌||◌, List, [], ◌∷◌, map, Option, ◌==◌, nat_le}
+use Rattle.std.specs.Prelude.{ℕ, ◌+◌, ◌-◌, ◌*◌, min, Bool, true, cond, not, ◌&&◌, ◌||◌, List, [], ◌∷◌, map, Option, ◌==◌, nat_le}
 use Rattle.roots.specs.First.{first}
-use Rattle.combination.specs.declared.text.Kind.{Kind}
-use Rattle.combination.specs.declared.text.Kind.TheVariants.{Blank, Solid, Line}
 
 -- the bytes before the first that passes the test, and those behind it
 abbrev pub before : (ℕ → Bool) → List ℕ → List ℕ
@@ -19,12 +17,6 @@ newline b = b == 10
 -- a space, a tab, a newline or a carriage return
 abbrev pub blank : ℕ → Bool
 blank b = b == 32 || (b == 9 || (b == 10 || b == 13))
-
--- what a run of bytes is made of
-abbrev pub of_kind : Kind → ℕ → Bool
-of_kind Blank b = blank b
-of_kind Solid b = not (blank b)
-of_kind Line b = not (newline b)
 
 -- the first line of a text, and the text behind it
 abbrev pub line : List ℕ → List ℕ

@@ -1,5 +1,5 @@
 -- What is printed. Assumes nothing.
-use Rattle.std.specs.Prelude.{ℕ, List, [], ◌∷◌, ◌++◌, Ok, Err, codes, decimal, Result}
+use Rattle.std.specs.Prelude.{ℕ, List, ◌++◌, Ok, Err, codes, decimal, Result}
 use Rattle.combination.specs.declared.answer.Combination.{Combination}
 use Rattle.combination.specs.declared.answer.Fault.{Fault}
 use Rattle.combination.specs.declared.answer.Fault.TheVariants.{Long, NoNumber, AmountCount, AmountLarge, EntryCount, EntryLarge, Extra}

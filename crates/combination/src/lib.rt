@@ -7,4 +7,4 @@ mod reading;
 mod text;
 
 pub use answer::{Combination, Fault};
-pub use reading::{Reply, combined, respond};
+pub use reading::{NoReply, combined, respond};

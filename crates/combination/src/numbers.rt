@@ -1,59 +1,48 @@
-ghost use Rattle.std.specs.Prelude.{◌≡◌, ◌+◌, ◌^◌, ◌<◌, ◌≤◌, [], ◌∷◌, ◌++◌, length, take};
-ghost use Rattle.combination.specs.Listed.{listed, NumbersRead};
+ghost use Rattle.std.specs.Prelude.{◌≡◌, ◌≤◌, length};
+ghost use Rattle.combination.specs.Listed.{NumbersRead};
 ghost use Rattle.combination.specs.Reading.{words, at_most};
 
-use super::text::{next_word, number};
+use super::text::{is_blank, number};
+use arrayvec::ArrayVec;
 
 /// As many numbers as a table of 16 members has entries above its diagonal.
 pub(super) const MOST: usize = 120;
 
-/// The numbers of a line: how many there are, and the first 120.
+/// Why a line has no numbers to give.
 #[derive(Clone, Copy)]
-pub(super) struct Numbers {
-    pub(super) values: [u32; 120],
-    pub(super) count: usize,
+pub(super) enum LineFault {
+    /// The first word that is no number, by its place from 1.
+    NoNumber(usize),
+    /// How many numbers there are, more than 120.
+    TooMany(usize),
 }
 
-impl Numbers {
-    fn push(&mut self, n: u32)
-        requires { self.old.count + 1 < 2 ^ 64 }
-        ensures count { self.new.count ≡ self.old.count + 1 }
-        ensures value { self.old.count < 120 → listed self.new ≡ listed self.old ++ (n ∷ []) }
-    {
-        if self.count < MOST {
-            self.values[self.count] = n;
-        }
-        self.count += 1;
-    }
-}
-
-/// The numbers of a line, or the place from 1 of the first word that is none.
-pub(super) fn read_numbers(line: &[u8]) -> Result<Numbers, usize>
+/// The numbers of a line.
+pub(super) fn read_numbers(line: &[u8]) -> Result<ArrayVec<u32, MOST>, LineFault>
     ensures { NumbersRead (words line.now) result }
 {
-    let mut numbers = Numbers {
-        values: [0; 120],
-        count: 0,
-    };
-    let mut rest = line;
-    while let Some((word, behind)) = next_word(rest) {
-        let Some(n) = number(word) else {
-            return Err(numbers.count + 1);
-        };
-        numbers.push(n);
-        rest = behind;
+    let mut numbers = ArrayVec::new();
+    let mut count = 0;
+    for word in line.split(|b| is_blank(*b)).filter(|word| !word.is_empty()) {
+        count += 1;
+        let n = number(word).ok_or(LineFault::NoNumber(count))?;
+        // past the room the words are only counted
+        let _ = numbers.try_push(n);
+    }
+    if count > MOST {
+        return Err(LineFault::TooMany(count));
     }
     Ok(numbers)
 }
 
 /// The numbers as bytes, 255 for what is larger.
-pub(super) fn to_bytes(values: &[u32]) -> [u8; 120]
+pub(super) fn to_bytes(values: &[u32]) -> ArrayVec<u8, MOST>
     requires { length values.now ≤ 120 }
-    ensures { take (length values.now) result ≡ at_most 255 values.now }
+    ensures { result.items ≡ at_most 255 values.now }
 {
-    let mut bytes = [0; 120];
-    for (i, v) in values.iter().enumerate() {
-        bytes[i] = (*v).min(255) as u8;
+    let mut bytes = ArrayVec::new();
+    for v in values {
+        bytes.push((*v).min(255) as u8);
     }
     bytes
 }

@@ -1,13 +1,14 @@
-ghost use Rattle.std.specs.Prelude.{◌≡◌, is_ok, IfOk, string_bytes};
+ghost use Rattle.std.specs.Prelude.{◌≡◌};
 ghost use Rattle.roots.specs.Held.{members_of};
 ghost use Rattle.combination.specs.Judged.{judged};
 ghost use Rattle.combination.specs.Parts.{amount_fault, entry_fault, AmountsRead, TableRead};
 ghost use Rattle.combination.specs.Reading.{words};
-ghost use Rattle.combination.specs.Texts.{answer_text};
+ghost use Rattle.combination.specs.Replies.{Replies};
+ghost use Rattle.combination.specs.declared.reading.NoReply.TheVariants.{Memory};
 
 use super::answer::{Combination, Fault};
-use super::numbers::{read_numbers, to_bytes};
-use super::text::{next_word, split_line};
+use super::numbers::{LineFault, read_numbers, to_bytes};
+use super::text::{has_words, split_line};
 use roots::{AmountFault, Amounts, Size, Table, TableFault};
 use std::alloc::{AllocError, Global};
 
@@ -35,36 +36,30 @@ fn entry_fault(fault: TableFault, given: usize, wanted: usize) -> Fault
 fn read_amounts(line: &[u8]) -> Result<(Size, Amounts), Fault>
     ensures { AmountsRead (words line.now) result }
 {
-    let numbers = match read_numbers(line) {
-        Ok(numbers) => numbers,
-        Err(word) => return Err(Fault::NoNumber(1, word)),
-    };
-    let Some(size) = Size::new(numbers.count) else {
-        return Err(Fault::AmountCount(numbers.count));
-    };
-    match Amounts::from_slice(&numbers.values[0..numbers.count]) {
-        Ok(amounts) => Ok((size, amounts)),
-        Err(fault) => Err(amount_fault(fault, numbers.count)),
-    }
+    let numbers = read_numbers(line).map_err(|fault| match fault {
+        LineFault::NoNumber(word) => Fault::NoNumber(1, word),
+        LineFault::TooMany(given) => Fault::AmountCount(given),
+    })?;
+    let given = numbers.len();
+    let size = Size::new(given).ok_or(Fault::AmountCount(given))?;
+    let amounts = Amounts::from_slice(numbers.as_slice()).map_err(|fault| amount_fault(
+        fault, given,
+    ))?;
+    Ok((size, amounts))
 }
 
 // The table of the second line.
 fn read_table(size: Size, line: &[u8]) -> Result<Table, Fault>
     ensures { TableRead (members_of size) (words line.now) result }
 {
-    let numbers = match read_numbers(line) {
-        Ok(numbers) => numbers,
-        Err(word) => return Err(Fault::NoNumber(2, word)),
-    };
     let wanted = size.entries();
-    if numbers.count != wanted {
-        return Err(Fault::EntryCount(numbers.count, wanted));
-    }
-    let bytes = to_bytes(&numbers.values[0..wanted]);
-    match Table::from_upper(size, &bytes[0..wanted]) {
-        Ok(table) => Ok(table),
-        Err(fault) => Err(entry_fault(fault, numbers.count, wanted)),
-    }
+    let numbers = read_numbers(line).map_err(|fault| match fault {
+        LineFault::NoNumber(word) => Fault::NoNumber(2, word),
+        LineFault::TooMany(given) => Fault::EntryCount(given, wanted),
+    })?;
+    let given = numbers.len();
+    let bytes = to_bytes(numbers.as_slice());
+    Table::from_upper(size, bytes.as_slice()).map_err(|fault| entry_fault(fault, given, wanted))
 }
 
 /// The amounts of the first line combined under the table of the second.
@@ -78,7 +73,7 @@ pub fn combined(text: &[u8]) -> Result<Combination, Fault>
     let (second, more) = split_line(rest);
     let (size, amounts) = read_amounts(first)?;
     let table = read_table(size, second)?;
-    if let Some(_) = next_word(more) {
+    if has_words(more) {
         return Err(Fault::Extra);
     }
     let form = table.form(&amounts);
@@ -91,27 +86,29 @@ pub fn combined(text: &[u8]) -> Result<Combination, Fault>
     })
 }
 
-/// What a program prints of its input.
-#[derive(Drop)]
-pub struct Reply {
-    /// The lines.
-    pub text: String,
-    /// Whether the input gave a combination, and no fault.
-    pub accepted: bool,
+/// Why there is no combination to print.
+#[derive(Debug, Drop)]
+pub enum NoReply {
+    /// The input is at fault: the line that says so.
+    Refused(String),
+    /// No memory for what is to be printed.
+    Memory(AllocError),
 }
 
-/// The reply to a text; `Err` only for want of memory.
-pub fn respond(heap: Global, text: &[u8]) -> Result<Reply, AllocError>
-    ensures { IfOk result (λ p. (string_bytes p.text ≡ answer_text (judged text.now)) × (p.accepted ≡ is_ok (judged text.now))) }
+impl From<AllocError> for NoReply {
+    ghost from_gives = { λ error result. result ≡ Memory error };
+
+    fn from(error: AllocError) -> NoReply {
+        NoReply::Memory(error)
+    }
+}
+
+/// What is printed of a text: the lines of its combination, or why there are none.
+pub fn respond(heap: Global, text: &[u8]) -> Result<String, NoReply>
+    ensures { Replies (judged text.now) result }
 {
     match combined(text) {
-        Ok(c) => Ok(Reply {
-            text: c.to_string(heap)?,
-            accepted: true,
-        }),
-        Err(e) => Ok(Reply {
-            text: e.to_string(heap)?,
-            accepted: false,
-        }),
+        Ok(combination) => Ok(combination.to_string(heap)?),
+        Err(fault) => Err(NoReply::Refused(fault.to_string(heap)?)),
     }
 }

@@ -1,7 +1,7 @@
 //! Combines amounts under a correlation table: two lines of numbers in, the low and the high of the root out.
 #![tactic(auto)]
 
-use combination::respond;
+use combination::{NoReply, respond};
 use std::env;
 use std::io::Read;
 use std::process::ExitCode;
@@ -16,37 +16,35 @@ INPUT has two lines of whole numbers, parted by blanks:
 // One byte more than the library takes, so that a longer input is seen to be longer.
 const ENOUGH: u64 = 65_537;
 
-// Whether the input was in order.
-fn combine(rt: &HostRuntime) -> anyhow::Result<bool> {
+// Prints the combination, or what is wrong with the input.
+fn combine(rt: &HostRuntime) -> anyhow::Result<ExitCode> {
     let mut input = Vec::new(rt.alloc());
     rt.stdin().take(ENOUGH).read_to_end(&mut input)?;
-    let reply = respond(rt.alloc(), input.as_slice())?;
-    let text = reply.text.as_str();
-    if reply.accepted {
-        print!(rt; "{text}")?;
-    } else {
-        eprint!(rt; "combine: {text}")?;
+    match respond(rt.alloc(), input.as_slice()) {
+        Ok(lines) => {
+            print!(rt; "{lines}")?;
+            Ok(ExitCode::SUCCESS)
+        }
+        Err(NoReply::Refused(line)) => {
+            eprint!(rt; "combine: {line}")?;
+            Ok(ExitCode::FAILURE)
+        }
+        Err(NoReply::Memory(error)) => Err(error.into()),
     }
-    Ok(reply.accepted)
 }
 
-// Whether all went well.
-fn run(rt: &HostRuntime) -> anyhow::Result<bool> {
+fn run(rt: &HostRuntime) -> anyhow::Result<ExitCode> {
     let Some(word) = env::args(rt)?.skip(1).next() else {
         return combine(rt);
     };
     if word.as_str() == "--help" {
         print!(rt; "{USAGE}")?;
-        return Ok(true);
+        return Ok(ExitCode::SUCCESS);
     }
     eprint!(rt; "{USAGE}")?;
-    Ok(false)
+    Ok(ExitCode::FAILURE)
 }
 
 fn main(rt: HostRuntime) -> anyhow::Result<ExitCode> {
-    if run(&rt)? {
-        Ok(ExitCode::SUCCESS)
-    } else {
-        Ok(ExitCode::FAILURE)
-    }
+    run(&rt)
 }

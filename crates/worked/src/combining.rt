@@ -1,21 +1,16 @@
 // Texts, with what the program prints of them.
-use combination::respond;
+use combination::{NoReply, respond};
 use std::alloc::Global;
 use std::process::Abort;
 use std::test::Fail;
 
-fn replies(
-    rt: &impl Abort,
-    alloc: Global,
-    cases: &[(&str, &str)],
-    accepted: bool,
-) -> Result<(), Fail> {
-    for case in cases {
-        let reply = respond(alloc, case.0.as_bytes())?;
-        assert_eq!(rt; reply.text.as_str(), case.1);
-        assert_eq!(rt; reply.accepted, accepted);
+// What is printed of a text that is at fault.
+fn refusal(rt: &impl Abort, alloc: Global, text: &[u8]) -> Result<String, Fail> {
+    match respond(alloc, text) {
+        Ok(lines) => panic!(rt; "no fault: {lines}"),
+        Err(NoReply::Refused(line)) => Ok(line),
+        Err(NoReply::Memory(error)) => Err(error.into()),
     }
-    Ok(())
 }
 
 #[test]
@@ -32,7 +27,11 @@ fn combined(rt: HostRuntime) -> Result<(), Fail> {
         ("0 0\n0", "members 2\nform 0\nlow 0\nhigh 0\n"),
         ("1 2 3\n10 20 30", "members 3\nform 1920\nlow 4\nhigh 5\n"),
     ];
-    replies(&rt, rt.alloc(), &cases, true)
+    for (text, printed) in cases {
+        let lines = respond(rt.alloc(), text.as_bytes())?;
+        assert_eq!(rt; lines.as_str(), printed);
+    }
+    Ok(())
 }
 
 #[test]
@@ -61,17 +60,20 @@ fn refused(rt: HostRuntime) -> Result<(), Fail> {
         ("3 4 5\n0 1.5 0\n", "line 2, word 2: not a whole number\n"),
         ("3 4\n25\n\n7\n", "line 3: text behind the two lines\n"),
     ];
-    replies(&rt, rt.alloc(), &cases, false)
+    for (text, printed) in cases {
+        let line = refusal(&rt, rt.alloc(), text.as_bytes())?;
+        assert_eq!(rt; line.as_str(), printed);
+    }
+    Ok(())
 }
 
 #[test]
 fn too_long(rt: HostRuntime) -> Result<(), Fail> {
     let blanks = [32u8; 65_537];
-    let reply = respond(rt.alloc(), &blanks)?;
+    let line = refusal(&rt, rt.alloc(), &blanks)?;
     assert_eq!(rt;
-        reply.text.as_str(),
+        line.as_str(),
         "the input has more than 65536 bytes\n"
     );
-    assert_eq!(rt; reply.accepted, false);
     Ok(())
 }

@@ -9,7 +9,7 @@ ghost use Rattle.roots.specs.Root.{lower, upper};
 use super::super::amounts::Amounts;
 use super::super::root::roots;
 use super::super::size::Size;
-use super::fill::{cells, first_above_100};
+use super::fill::{Upper, first_above_100};
 use super::{Table, TableFault};
 
 impl Table {
@@ -18,7 +18,7 @@ impl Table {
         ensures size { table_members result ≡ members_of size }
         ensures entries { (r c : ℕ) → correlation result r c ≡ identity r c }
     {
-        let cells = cells(size, &[]);
+        let cells = Upper { size, given: &[] }.cells();
         Table { size, cells }
     }
 
@@ -32,7 +32,7 @@ impl Table {
         if let Some(position) = first_above_100(given) {
             return Err(TableFault::Entry(position));
         }
-        let cells = cells(size, given);
+        let cells = Upper { size, given }.cells();
         Ok(Table { size, cells })
     }
 

@@ -1,45 +1,26 @@
-use Rattle.std.proofs.Common.{◌≡◌, ℕ, ◌-◌, ◌^◌, ◌≤◌, Bool, true, false, cond, ◌&&◌, leb, List, length, take, Some, None, Ok, Err, sym, refl, ap, ◌∙◌, arith}
-use native.Mathlib.Nat.{sub-zero}
-use Rattle.std.proofs.lemmas.List.{length-map}
-use Rattle.std.proofs.lemmas.Bool.{leb-true}
-use Rattle.roots.specs.Answers.{sized}
-use Rattle.roots.specs.Held.{members_of, held}
-use Rattle.combination.specs.Reading.{words, numbers, at_most}
+use Rattle.std.proofs.Common.{◌≡◌, length, Some, Ok, Err, ◌∙◌, rules, tests}
+use Rattle.std.proofs.lemmas.Result.{err_from_is_err_and}
+use Rattle.roots.specs.Answers.{sized, AmountsMade}
+use Rattle.roots.specs.Held.{members_of}
+use Rattle.roots.specs.declared.amounts.AmountFault.{AmountFault}
+use Rattle.combination.specs.Listed.{NumbersRead}
+use Rattle.combination.specs.Parts.{amount_fault}
+use Rattle.combination.specs.Reading.{words}
 use Rattle.combination.proofs.Judging.{amounts_right, amounts_wrong}
 use Rattle.combination.proofs.reading.read_amounts.Goals as goal
 
--- a size that was made
-within : (m n : ℕ) → Some m ≡ sized n → (m ≡ n) × (2 ≤ n) × (n ≤ 16)
-within m n h = go (leb 2 n) (leb n 16) refl refl h
-  where
-    go : (a b : Bool) → leb 2 n ≡ a → leb n 16 ≡ b → Some m ≡ cond (a && b) (Some n) None → (m ≡ n) × (2 ≤ n) × (n ≤ 16)
-    go true true p q e = (cc, leb-true 2 n p, leb-true n 16 q)
-    go true false p q e = absurd (let z : ◌≡◌ {A = ℕ} 0 1 = cc in let y : ⊥ = omega arith in y)
-    go false b p q e = absurd (let z : ◌≡◌ {A = ℕ} 0 1 = cc in let y : ⊥ = omega arith in y)
+pub returns-in_err-amounts : goal.returns-in_err-amounts
+returns-in_err-amounts c =
+    let read : NumbersRead (words c.args.line.now) (Ok c.in_ok-numbers.numbers) = search rules in
+    let size : Some (members_of c.in_ok-size.size) ≡ sized (length c.as_slice.result.now) = search rules in
+    let told : (f : AmountFault) × (c.from_slice.result ≡ Err f) × (c.in_err-amounts.field-0.0 ≡ amount_fault f c.len-given.result) = search (rules, tests) in
+    let made : AmountsMade c.as_slice.result.now (Err told.0) = rw told.1 at c.from_slice.ensures in
+    let p = err_from_is_err_and c.from_residual-in_err-amounts.result c.from_residual-in_err-amounts.ensures.1 in
+    rw (p.1, p.2, told.2) (amounts_wrong (words c.args.line.now) read.0 c.as_slice.result.now (c.as_slice.ensures.value ∙ read.2) (members_of c.in_ok-size.size) size told.0 c.len-given.result made)
 
--- the part of the array that is lent
-part : (n : ℕ) (values : List ℕ) (xs : List ℕ) → take n values ≡ xs → take (n - 0) values ≡ xs
-part n values xs h = rw sub-zero h
-
-pub returns-in-Ok-from_slice : goal.returns-in-Ok-from_slice
-returns-in-Ok-from_slice c =
-    let ws = words c.args.line.now in
-    let made = c.in-Ok-from_slice.ensures in
-    let read = c.in-Ok.ensures in
-    let size = within (members_of c.in-Some.size) c.in-Ok.numbers.count c.in-Some.ensures in
-    let least : 2 ≤ length (words c.args.line.now) = omega (arith, size.1, read.1) in
-    let most : length (words c.args.line.now) ≤ 16 = omega (arith, size.2, read.1) in
-    let is = part c.in-Ok.numbers.count c.in-Ok.numbers.values _ (read.2 (omega arith)) in (
-      amounts_right ws read.0 least most _ is made.0 ∙ ap Ok (sym made.1),
-      size.0 ∙ read.1 ∙ sym (ap length (made.1 ∙ is) ∙ length-map (numbers ws) _ ∙ length-map ws _),
-    )
-
-pub returns-in-Err-from_slice : goal.returns-in-Err-from_slice
-returns-in-Err-from_slice c =
-    let ws = words c.args.line.now in
-    let read = c.in-Ok.ensures in
-    let size = within (members_of c.in-Some.size) c.in-Ok.numbers.count c.in-Some.ensures in
-    let least : 2 ≤ length (words c.args.line.now) = omega (arith, size.1, read.1) in
-    let most : length (words c.args.line.now) ≤ 16 = omega (arith, size.2, read.1) in
-    let is = part c.in-Ok.numbers.count c.in-Ok.numbers.values _ (read.2 (omega arith)) in
-    amounts_wrong ws read.0 least most _ is c.in-Err-from_slice.fault c.in-Ok.numbers.count c.in-Err-from_slice.ensures ∙ ap Err (sym c.amount_fault.ensures)
+pub returns : goal.returns
+returns c =
+    let read : NumbersRead (words c.args.line.now) (Ok c.in_ok-numbers.numbers) = search rules in
+    let size : Some (members_of c.in_ok-size.size) ≡ sized (length c.as_slice.result.now) = search rules in
+    let made : AmountsMade c.as_slice.result.now (Ok c.in_ok-amounts.amounts) = search rules in
+    amounts_right (words c.args.line.now) read.0 c.as_slice.result.now (c.as_slice.ensures.value ∙ read.2) (members_of c.in_ok-size.size) size c.in_ok-amounts.amounts made

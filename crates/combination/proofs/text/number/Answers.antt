@@ -1,22 +1,11 @@
-use Rattle.std.proofs.Common.{◌≡◌, ℕ, ◌+◌, ◌-◌, ◌*◌, ◌^◌, ◌<◌, ◌≤◌, min, Bool, true, false, cond, List, ◌∷◌, get_or, drop, Some, None, sym, refl, ap, ◌∙◌, arith}
-use Rattle.std.proofs.lemmas.List.{at_drop_more, at_drop_all}
-use Rattle.std.proofs.lemmas.Bool.Decides.{nat_tests}
+use Rattle.std.proofs.Common.{◌≡◌, ℕ, ◌+◌, ◌-◌, ◌*◌, ◌^◌, min, true, ◌&&◌, leb, List, ◌∷◌, get_or, drop, sym, refl, ap, ◌∙◌, arith}
+use Rattle.std.proofs.lemmas.List.{at_drop_more}
 use Rattle.combination.specs.Reading.{digits, number_behind}
 use Rattle.combination.proofs.Digits.{capped}
 use Rattle.combination.proofs.text.number.Goals as goal
-use Rattle.combination.proofs.text.number.Goals.{then-b-lt48-via-then-b-lt48, then-b-lt48-via-else-b-lt48+then-b-gt57}
 
-digit : (b : ℕ) (bs : List ℕ) → 48 ≤ b → b ≤ 57 → digits (b ∷ bs) ≡ digits bs
-digit b bs low high = grind (arith, nat_tests)
-
-no_digit_below : (b : ℕ) (bs : List ℕ) → b < 48 → digits (b ∷ bs) ≡ false
-no_digit_below b bs low = grind (arith, nat_tests)
-
-no_digit_above : (b : ℕ) (bs : List ℕ) → 57 < b → digits (b ∷ bs) ≡ false
-no_digit_above b bs high = grind (arith, nat_tests)
-
-refused : (b : Bool) (n : ℕ) → b ≡ false → None ≡ cond b (Some n) None
-refused b n e = rw e
+digit : (b : ℕ) (bs : List ℕ) → (leb 48 b && leb b 57) ≡ true → digits (b ∷ bs) ≡ digits bs
+digit b bs e = rw e refl
 
 pub loop-b-preserved : goal.loop-b-preserved
 loop-b-preserved c =
@@ -26,32 +15,10 @@ loop-b-preserved c =
     let n = c.loop-b.n in
     let limit = 2 ^ 32 - 1 in
     let value : c.saturating_add-n.result ≡ min (10 * c.loop-b.n + (get_or c.args.word.now c.loop-b.b-index 0 - 48)) (2 ^ 32 - 1) = omega (arith, c.saturating_mul.ensures, c.saturating_add-n.ensures) in (
-      c.loop-b.invariant.0 ∙ at_drop_more digits w i 0 c.loop-b-test.true ∙ digit b (drop (i + 1) w) c.if-b-lt48.false c.if-b-gt57.false,
+      c.loop-b.invariant.0 ∙ at_drop_more digits w i 0 c.loop-b-test.true ∙ digit b (drop (i + 1) w) (sym c.is_ascii_digit.ensures.value ∙ c.if-not-is_ascii_digit.false),
       c.loop-b.invariant.1
           ∙ at_drop_more (λ ds. min (number_behind n ds) limit) w i 0 c.loop-b-test.true
           ∙ sym (capped limit (10 * n + (b - 48)) (drop (i + 1) w))
           ∙ ap (λ v. min (number_behind v (drop (i + 1) w)) limit) (sym value),
       omega (arith, value),
     )
-
-pub returns-then-b-lt48 : goal.returns-then-b-lt48
-returns-then-b-lt48 c =
-    let w = c.args.word.now in
-    let i = c.loop-b.b-index in
-    let here = c.loop-b.invariant.0 ∙ at_drop_more digits w i 0 c.loop-b-test.true in
-    elim c.then-b-lt48.branch [
-      | then-b-lt48-via-then-b-lt48 v ↦ refused (digits w) _ (here ∙ no_digit_below (get_or w i 0) (drop (i + 1) w) v.if-b-lt48.true)
-      | then-b-lt48-via-else-b-lt48+then-b-gt57 v ↦ refused (digits w) _ (here ∙ no_digit_above (get_or w i 0) (drop (i + 1) w) v.if-b-gt57.true)
-    ]
-
-taken : (b : Bool) (m n : ℕ) → b ≡ true → n ≡ m → Some n ≡ cond b (Some m) None
-taken b m n e f = rw (e, f)
-
-pub returns : goal.returns
-returns c =
-    let w = c.args.word.now in
-    let i = c.loop-b.b-index in
-    let n = c.loop-b.n in
-    let limit = 2 ^ 32 - 1 in
-    let value = c.loop-b.invariant.1 ∙ at_drop_all (λ ds. min (number_behind n ds) limit) w i c.loop-b-test.false in
-    taken (digits w) _ n (c.loop-b.invariant.0 ∙ at_drop_all digits w i c.loop-b-test.false) (omega (arith, value, c.loop-b.invariant.2))

@@ -1,6 +1,0 @@
-use Rattle.std.proofs.Common.{◌+◌, ◌-◌, ◌*◌, arith}
-use Rattle.roots.proofs.Fill.{before_half}
-use Rattle.roots.proofs.table.fill.entries_before.Goals as goal
-
-pub returns-clause-value : goal.returns-clause-value
-returns-clause-value c = before_half c.args.size.count c.args.r (2 * c.members.result - (c.args.r + 1)) (omega arith) (omega arith)
