@@ -52,6 +52,7 @@ impl Line {
     }
 
     /// What it adds to the total of its kind and class.
+    #[tactic(auto, unfolding(crate::specs::Weights::weight))]
     pub fn weight(&self) -> u64
         ensures { result ≡ weight (fields_of self.now) }
     {
