@@ -7,13 +7,7 @@ use std::test::Fail;
 use working::WorkOut;
 
 fn enter(filing: &mut Filing, kind: u8, rate: u16) -> Result<(), Fail> {
-    filing.enter(Fields {
-        kind,
-        class: 0,
-        rate,
-        first: 4_294_967_295,
-        second: 0,
-    })?;
+    filing.enter(Fields::from((kind, 0, rate, 4_294_967_295, 0)))?;
     Ok(())
 }
 

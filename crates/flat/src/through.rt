@@ -1,56 +1,42 @@
 // Flat charges put through the formula; the figures expected were worked apart from it.
-use super::Flat;
+use super::{Five, Flat, Seven, Six, Three, Two};
 use charges::{Beside, Charge, Charges, TooLargeAt, work_out};
 use roots::{Size, Table};
 use std::process::Abort;
+use std::slice::Iter;
 use std::test::Fail;
 
-type Two = (Flat, (Flat, ()));
+type Given<'a> = Iter<'a, (u32, u32)>;
 
-type Three = (Flat, Two);
-
-type Five = (Flat, (Flat, Three));
-
-type Six = (Flat, Five);
-
-type Seven = (Flat, Six);
-
-// The charge of a figure, from 1.
-fn charge(given: &[(u32, u32)], figure: usize) -> Result<Flat, Fail> {
-    let Some(pair) = given.get(figure.saturating_sub(1)) else {
+// The next charge.
+fn charge(given: &mut Given) -> Result<Flat, Fail> {
+    let Some((low, high)) = given.next() else {
         return Err(Fail::new("too few charges"));
     };
-    let Some(flat) = Flat::new(pair.0, pair.1) else {
+    let Some(flat) = Flat::new(*low, *high) else {
         return Err(Fail::new("no flat charge"));
     };
     Ok(flat)
 }
 
-fn two(given: &[(u32, u32)], from: usize) -> Result<Two, Fail> {
-    let first = charge(given, from)?;
-    let second = charge(given, from.saturating_add(1))?;
-    Ok((first, (second, ())))
+fn two(given: &mut Given) -> Result<Two, Fail> {
+    Ok((charge(given)?, (charge(given)?, ())))
 }
 
-fn three(given: &[(u32, u32)], from: usize) -> Result<Three, Fail> {
-    let first = charge(given, from)?;
-    Ok((first, two(given, from.saturating_add(1))?))
+fn three(given: &mut Given) -> Result<Three, Fail> {
+    Ok((charge(given)?, two(given)?))
 }
 
-fn five(given: &[(u32, u32)], from: usize) -> Result<Five, Fail> {
-    let first = charge(given, from)?;
-    let second = charge(given, from.saturating_add(1))?;
-    Ok((first, (second, three(given, from.saturating_add(2))?)))
+fn five(given: &mut Given) -> Result<Five, Fail> {
+    Ok((charge(given)?, (charge(given)?, three(given)?)))
 }
 
-fn six(given: &[(u32, u32)], from: usize) -> Result<Six, Fail> {
-    let first = charge(given, from)?;
-    Ok((first, five(given, from.saturating_add(1))?))
+fn six(given: &mut Given) -> Result<Six, Fail> {
+    Ok((charge(given)?, five(given)?))
 }
 
-fn seven(given: &[(u32, u32)], from: usize) -> Result<Seven, Fail> {
-    let first = charge(given, from)?;
-    Ok((first, six(given, from.saturating_add(1))?))
+fn seven(given: &mut Given) -> Result<Seven, Fail> {
+    Ok((charge(given)?, six(given)?))
 }
 
 // The 23 charges given through the formula.
@@ -60,17 +46,13 @@ fn worked(
     beside: &Beside,
     place: &mut [(u32, u32); 28],
 ) -> Result<Result<(), TooLargeAt>, Fail> {
-    let market = six(given, 1)?;
-    let life = seven(given, 7)?;
-    let health = three(given, 14)?;
-    let non_life = two(given, 17)?;
-    let basic = five(given, 19)?;
+    let mut given = given.iter();
     let charges = Charges {
-        market,
-        life,
-        health,
-        non_life,
-        basic,
+        market: six(&mut given)?,
+        life: seven(&mut given)?,
+        health: three(&mut given)?,
+        non_life: two(&mut given)?,
+        basic: five(&mut given)?,
     };
     Ok(work_out(&charges, table, beside, place))
 }
@@ -78,12 +60,10 @@ fn worked(
 // Figures 1 to 18, no two alike, and these members of the basic SCR.
 fn given(members: [(u32, u32); 5]) -> [(u32, u32); 23] {
     let mut all = [(0, 0); 23];
-    for i in 0..18 {
-        all[i] = (i as u32, i as u32 + 50);
+    for (pair, given) in all.iter_mut().zip((0..18).zip(50..68)) {
+        *pair = given;
     }
-    for i in 0..5 {
-        all[18 + i] = members[i];
-    }
+    all[18..23].copy_from_slice(&members);
     all
 }
 
@@ -107,12 +87,10 @@ fn answers(
     let mut place = [(0, 0); 28];
     let told = worked(given, table, beside, &mut place)?;
     assert_eq!(rt; told, Ok(()));
-    for i in 0..23 {
-        assert_eq!(rt; place[i], given[i]);
-    }
-    for i in 0..5 {
-        assert_eq!(rt; place[23 + i], last[i]);
-    }
+    let mut figures = [(0, 0); 28];
+    figures[0..23].copy_from_slice(given);
+    figures[23..28].copy_from_slice(&last);
+    assert_eq!(rt; place, figures);
     Ok(())
 }
 
@@ -127,9 +105,7 @@ fn refuses(
     let mut place = [(7, 9); 28];
     let told = worked(given, table, beside, &mut place)?;
     assert_eq!(rt; told, Err(TooLargeAt(figure)));
-    for i in 0..28 {
-        assert_eq!(rt; place[i], (7, 9));
-    }
+    assert_eq!(rt; place, [(7, 9); 28]);
     Ok(())
 }
 

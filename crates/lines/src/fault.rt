@@ -16,6 +16,7 @@ pub enum LineFault {
     Second(usize),
 }
 
+// No `Display`: a refusal is told by its numbers.
 impl LineFault {
     /// The refusal's number, the line's number and the field's place.
     pub fn shown(self) -> (u8, usize, usize)

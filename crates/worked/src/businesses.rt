@@ -5,13 +5,10 @@ use ours::Ours;
 use std::test::Fail;
 use working::{Figure, WorkOut};
 
-// These entries from a place on, if they fit.
+// These entries from a place on.
 fn put(all: &mut [u8], from: usize, row: &[u8]) {
-    for (i, entry) in row.iter().enumerate() {
-        let place = from.saturating_add(i);
-        if place < all.len() {
-            all[place] = *entry;
-        }
+    for (entry, given) in all.iter_mut().skip(from).zip(row) {
+        *entry = *given;
     }
 }
 
@@ -32,14 +29,9 @@ fn entries(eight: &[u8; 28]) -> [u8; 105] {
 fn figure(rt: &HostRuntime, shares: [u32; 8], eight: &[u8; 28]) -> Result<(u32, u32), Fail> {
     let mut filing = Filing::new(rt.alloc(), 2031, 4)?;
     filing.replace(7, &entries(eight))?;
-    for i in 0..8 {
-        filing.enter(Fields {
-            kind: 17,
-            class: i as u8 + 1,
-            rate: 10_000,
-            first: shares[i].saturating_mul(1_000),
-            second: 0,
-        })?;
+    for (class, share) in (1..9).zip(shares) {
+        let volume = share.saturating_mul(1_000);
+        filing.enter(Fields::from((17, class, 10_000, volume, 0)))?;
     }
     let Some(number) = Figure::new(17) else {
         return Err(Fail::new("no such figure"));

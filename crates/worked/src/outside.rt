@@ -14,17 +14,16 @@ fn combined(amounts: &[u32], entries: &[u8]) -> Result<(u32, u32), Fail> {
 
 // What the root leaves of the sum, in whole percent.
 fn diversification(sum: u64, root: u32) -> u64 {
-    let left = sum.saturating_sub(root as u64);
+    let left = sum.saturating_sub(u64::from(root));
     left.saturating_mul(200).saturating_add(sum) / sum.max(1).saturating_mul(2).max(1)
 }
 
 // Shares of a total among eight lines of business, in thousandths, with the diversification
 // that was printed for them in whole percent.
 fn printed(rt: &impl Abort, shares: &[u32], entries: &[u8], percent: u64) -> Result<(), Fail> {
-    let mut sum: u64 = 0;
-    for share in shares {
-        sum = sum.saturating_add(*share as u64);
-    }
+    let sum = shares
+        .iter()
+        .fold(0, |sum: u64, share| sum.saturating_add(u64::from(*share)));
     let (low, high) = combined(shares, entries)?;
     assert_eq!(rt; diversification(sum, low), percent);
     assert_eq!(rt; diversification(sum, high), percent);

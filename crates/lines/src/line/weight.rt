@@ -5,8 +5,8 @@ ghost use Rattle.lines.specs.Weights.{capped, factor, span, weight};
 use super::super::kind::Kind;
 use super::Line;
 
-// A class has no enum: what its number means depends on the kind.
 // A spread line's duration in hundredths of a year, capped for the lower classes and for unrated.
+// A class is no enum: what its number means depends on the kind.
 fn capped(class: u8, duration: u16) -> u16
     ensures { result ≡ capped class duration }
 {
@@ -52,6 +52,7 @@ impl Line {
     }
 
     /// What it adds to the total of its kind and class.
+    #[tactic(auto, unfolding(crate::specs::Weights::weight))]
     pub fn weight(&self) -> u64
         ensures { result ≡ weight (fields_of self.now) }
     {

@@ -47,12 +47,13 @@ impl Sums {
         &self.cells[start..start + usize::from(CLASSES)]
     }
 
-    // A line of few enough.
+    // A line more, where there is room in its cell.
     pub(crate) fn add(&mut self, line: &Line)
-        requires first { (cell self.old (fields_of line.now).kind (fields_of line.now).class).first + weight (fields_of line.now) < 2 ^ 64 }
-        requires second { (cell self.old (fields_of line.now).kind (fields_of line.now).class).second + (fields_of line.now).second < 2 ^ 64 }
-        requires count { (cell self.old (fields_of line.now).kind (fields_of line.now).class).count + 1 < 2 ^ 64 }
-        ensures { (k c : ℕ) → cell self.new k c ≡ (if (fields_of line.now).kind == k && (fields_of line.now).class == c then more (cell self.old k c) (fields_of line.now) else cell self.old k c) }
+        requires first { let l = fields_of line.now in (cell self.old l.kind l.class).first + weight l < 2 ^ 64 }
+        requires second { let l = fields_of line.now in (cell self.old l.kind l.class).second + l.second < 2 ^ 64 }
+        requires count { let l = fields_of line.now in (cell self.old l.kind l.class).count + 1 < 2 ^ 64 }
+        ensures { let l = fields_of line.now in
+            (k c : ℕ) → cell self.new k c ≡ (if l.kind == k && l.class == c then more (cell self.old k c) l else cell self.old k c) }
     {
         let fields = line.fields();
         let sum = &mut self.cells[start(line.kind()) + usize::from(fields.class)];
