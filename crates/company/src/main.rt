@@ -1,13 +1,13 @@
 //! Prints the 28 figures of a sample company under the tables of QIS3.
 #![tactic(auto)]
 
-use kinds::{Tables, figures};
+use kinds::figures;
 use lines::{Line, Totals};
 use roots::{Size, Table};
 use sample::{book, entries};
 use std::env;
 use std::process::ExitCode;
-use tables::Which;
+use tables::{NamedTables, Which};
 
 const USAGE: &str = "usage: company
 Prints the 28 figures of a company under the tables of QIS3, one a line: number, low, high.
@@ -29,8 +29,8 @@ fn table(members: usize, which: Which) -> Option<Table> {
     Table::from_upper(Size::new(members)?, entries(which)).ok()
 }
 
-fn tables() -> Option<Tables> {
-    Some(Tables {
+fn tables() -> Option<NamedTables> {
+    Some(NamedTables {
         basic: table(5, Which::Basic)?,
         market: table(6, Which::Market)?,
         equity: table(2, Which::Equity)?,

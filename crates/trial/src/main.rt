@@ -3,8 +3,8 @@
 #![tactic(auto)]
 
 use filing::{Filing, FilingFault, OpenFault};
+use kinds::Ours;
 use lines::Fields;
-use ours::Ours;
 use sample::{book, entries};
 use std::process::ExitCode;
 use std::{env, io};

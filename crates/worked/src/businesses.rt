@@ -1,7 +1,7 @@
 // Lines of business under tables from outside: the shares of a total among eight of them, in percent.
 use filing::Filing;
+use kinds::Ours;
 use lines::Fields;
-use ours::Ours;
 use std::test::Fail;
 use working::{Figure, WorkOut};
 

@@ -1,9 +1,10 @@
 // Lines through our charges, with every table uncorrelated.
 use charges::TooLargeAt;
-use kinds::{Tables, figures};
+use kinds::figures;
 use lines::{Fields, Line, Totals};
 use roots::{Size, Table};
 use std::test::*;
+use tables::NamedTables;
 
 fn table(members: usize) -> Result<Table, Fail> {
     let Some(size) = Size::new(members) else {
@@ -12,8 +13,8 @@ fn table(members: usize) -> Result<Table, Fail> {
     Ok(Table::uncorrelated(size))
 }
 
-fn tables() -> Result<Tables, Fail> {
-    Ok(Tables {
+fn tables() -> Result<NamedTables, Fail> {
+    Ok(NamedTables {
         basic: table(5)?,
         market: table(6)?,
         equity: table(2)?,

@@ -1,9 +1,10 @@
 // Filings, and their figures by our charges, which were worked apart from them.
 use filing::{Filing, FilingFault};
+use kinds::{Ours, figures};
 use lines::{Fields, Totals};
-use ours::{Ours, figures};
 use std::process::Abort;
 use std::test::Fail;
+use tables::NamedTables;
 use working::{Figure, WorkOut};
 
 // Done, or the refusal's number and its places.
@@ -66,8 +67,9 @@ fn by_totals(rt: HostRuntime) -> Result<(), Fail> {
     let Some(totals) = Totals::of(filing.lines()) else {
         return Err(Fail::new("too many lines"));
     };
+    let tables = NamedTables::from(*filing.tables());
     let mut place = [(1, 2); 28];
-    assert!(rt; figures(filing.lines(), &totals, filing.tables(), &mut place).is_ok());
+    assert!(rt; figures(&totals, &tables, &mut place).is_ok());
     assert_eq!(rt; place[23], (16_777_215, 16_777_215));
     assert_eq!(rt; place[26], (5_592_405, 5_592_405));
     Ok(())
