@@ -42,9 +42,7 @@ fn read_amounts(line: &[u8]) -> Result<(Size, Amounts), Fault>
     })?;
     let given = numbers.len();
     let size = Size::new(given).ok_or(Fault::AmountCount(given))?;
-    let amounts = Amounts::from_slice(numbers.as_slice()).map_err(|fault| amount_fault(
-        fault, given,
-    ))?;
+    let amounts = Amounts::from_slice(numbers.as_slice()).map_err(|e| amount_fault(e, given))?;
     Ok((size, amounts))
 }
 
@@ -59,7 +57,7 @@ fn read_table(size: Size, line: &[u8]) -> Result<Table, Fault>
     })?;
     let given = numbers.len();
     let bytes = to_bytes(numbers.as_slice());
-    Table::from_upper(size, bytes.as_slice()).map_err(|fault| entry_fault(fault, given, wanted))
+    Table::from_upper(size, bytes.as_slice()).map_err(|e| entry_fault(e, given, wanted))
 }
 
 /// The amounts of the first line combined under the table of the second.
