@@ -14,7 +14,8 @@ pub trait Charge {
     // the highs of its members, at every depth
     ghost inner: { Self → List ℕ } = { λ c. [] };
 
-    // of the type alone: two to sixteen members at every depth
+    // of the type alone: two to sixteen members at every depth. It is asked of callers: as an invariant of
+    // a module it would ask `Module::new` what that never asked
     ghost proper: { Type 0 } = { Unit {0} };
 
     /// The low and the high together, or that they are too large.
@@ -34,7 +35,7 @@ pub trait Charge {
 }
 
 /// The largest high of a charge.
-pub(crate) const LIMIT: u32 = 16_777_215;
+pub const LIMIT: u32 = 16_777_215;
 
 /// A charge's answer in place of a low and a high: its high, or that of a member at any depth, passes
 /// 16,777,215. It tells no more: a charge has no other refusal.

@@ -13,7 +13,7 @@ mod rate;
 mod squares;
 
 pub use beside::Beside;
-pub use charge::{Charge, TooLarge, TooLargeAt};
+pub use charge::{Charge, LIMIT, TooLarge, TooLargeAt};
 pub use difference::Difference;
 pub use figures::{Charges, work_out};
 pub use members::Members;

@@ -1,6 +1,7 @@
 ghost use Rattle.std.specs.Prelude.{◌≡◌, ℕ, ◌<◌, ◌≤◌, length, slice_index_or};
 
-/// At most 27 lows and highs in order, each at most 16,777,215.
+/// At most 27 lows and highs in order, each at most 16,777,215. They are an array with its length,
+/// since these are plain data that is copied, and an `ArrayVec` is not `Copy`.
 #[derive(Clone, Copy)]
 pub struct Pairs {
     values: [(u32, u32); 28],
@@ -20,7 +21,8 @@ pub enum PairFault {
     Large,
 }
 
-/// The low or the high of a pair.
+/// The low or the high of a pair. An enum and no closure: a contract has its two cases, and knows that
+/// neither passes the limit.
 #[derive(Clone, Copy)]
 pub(crate) enum Side {
     Low,

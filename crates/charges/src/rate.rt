@@ -36,10 +36,10 @@ impl Charge for Rate {
     ghost alike = { λ a b. refl };
 
     fn bounds(&self) -> Result<(u32, u32), TooLarge> {
-        let amount = self.total as u128 * self.numerator as u128;
-        let by = self.parts.count() as u128;
+        let amount = u128::from(self.total) * u128::from(self.numerator);
+        let by = u128::from(self.parts.count());
         let low = amount / by;
-        let high = (amount + (by - 1)) / by;
+        let high = amount.div_ceil(by);
         if high > u128::from(LIMIT) {
             return Err(TooLarge);
         }

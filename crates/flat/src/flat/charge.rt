@@ -4,9 +4,7 @@ ghost use Rattle.flat.specs.FlatTerms.{flat_terms};
 ghost use Rattle.std.proofs.Common.{refl};
 
 use super::Flat;
-use charges::{Charge, TooLarge};
-
-const LIMIT: u32 = 16_777_215;
+use charges::{Charge, LIMIT, TooLarge};
 
 impl Charge for Flat {
     ghost D = { λ c. (flat c.low c.high).D };
@@ -21,7 +19,7 @@ impl Charge for Flat {
 
     fn bounds(&self) -> Result<(u32, u32), TooLarge> {
         if self.high > LIMIT {
-            return Err(TooLarge {});
+            return Err(TooLarge);
         }
         Ok((self.low, self.high))
     }
