@@ -17,7 +17,3 @@ pub module_same : (number : ℕ) (ts : NamedTables) (all : List (ℕ → ℕ →
 module_same number ts all t u xs ys is same own q =
     ap (λ (e : ℕ → ℕ → ℕ). module_of e xs) (ap correlation same ∙ own ∙ ap (λ (l : List (ℕ → ℕ → ℕ)). table l number) is)
     ∙ ap (λ (l : List Meaning). module_of (table all number) l) q
-
--- the formula's answer, with what each of its parts means put in its place
-pub answered_same : (e : ℕ → ℕ → ℕ) (t u : Beside) (a a' b b' c c' d d' m m' : List Meaning) (before after : List (ℕ × ℕ)) (r : Result (Unit {0}) TooLargeAt) → t ≡ u → a ≡ a' → b ≡ b' → c ≡ c' → d ≡ d' → m ≡ m' → Answered e t (a ++ b ++ c ++ d) m before after r → Answered e u (a' ++ b' ++ c' ++ d') m' before after r
-answered_same e t u a a' b b' c c' d d' m m' before after r o p q s v w h = rw (← o, ← p, ← q, ← s, ← v, ← w) h

@@ -4,7 +4,7 @@ use Rattle.charges.specs.Meaning.{widths}
 use Rattle.choice.specs.Basis.{Basis, on}
 use Rattle.choice.specs.Figured.{all_figures}
 use Rattle.kinds.specs.Ours.{ours, our_widths}
-use Rattle.kinds.proofs.Same.{answered_same}
+use Rattle.choice.proofs.Same.{answered_same}
 use Rattle.kinds.proofs.ByHand.{by_hand}
 use Rattle.kinds.proofs.worked.figures.Goals as goal
 
@@ -15,7 +15,7 @@ widths_are b = refl
 pub returns-clause-answer : goal.returns-clause-answer
 returns-clause-answer c = λ ls tally.
     let b = on ls c.args.tables.now in
-    answered_same _ _ _ _ _ _ _ _ _ _ _ _ _ _ _ _ (c.beside.ensures ls tally) (c.market.ensures b tally refl) (c.life.ensures b tally refl) (c.health.ensures b tally refl) (c.non_life.ensures b tally refl) (c.basic.ensures b tally refl) c.work_out.ensures
+    answered_same _ _ _ _ _ _ _ _ _ _ _ _ _ _ _ _ _ refl (c.beside.ensures ls tally) (c.market.ensures b tally refl) (c.life.ensures b tally refl) (c.health.ensures b tally refl) (c.non_life.ensures b tally refl) (c.basic.ensures b tally refl) c.work_out.ensures
 
 pub returns-clause-width : goal.returns-clause-width
 returns-clause-width c = widths_are
