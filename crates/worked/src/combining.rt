@@ -71,9 +71,6 @@ fn refused(rt: HostRuntime) -> Result<(), Fail> {
 fn too_long(rt: HostRuntime) -> Result<(), Fail> {
     let blanks = [32u8; 65_537];
     let line = refusal(&rt, rt.alloc(), &blanks)?;
-    assert_eq!(rt;
-        line.as_str(),
-        "the input has more than 65536 bytes\n"
-    );
+    assert_eq!(rt; line.as_str(), "the input has more than 65536 bytes\n");
     Ok(())
 }
