@@ -1,5 +1,5 @@
 -- A charge with a given low and high keeps the terms. Assumes nothing.
-use Rattle.std.specs.Prelude.{ℕ, ◌+◌, ◌*◌, ◌≤◌}
+use Rattle.std.specs.Prelude.{ℕ, ◌+◌, ◌≤◌}
 use Rattle.std.proofs.Common.{mul-le-mul_left, arith}
 use Rattle.charges.specs.Meaning.{Terms}
 use Rattle.flat.specs.Flats.{flat}

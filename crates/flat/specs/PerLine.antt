@@ -4,7 +4,7 @@ use Rattle.roots.specs.Form.{sum}
 use Rattle.charges.specs.Meaning.{Meaning}
 use Rattle.lines.specs.declared.fields.Fields.{Fields}
 use Rattle.lines.specs.Totals.{standing}
-use Rattle.choice.specs.Basis.{Basis, Chosen}
+use Rattle.choice.specs.Basis.{Chosen}
 use Rattle.flat.specs.Flats.{flat}
 
 -- as many units as lines of a kind stand

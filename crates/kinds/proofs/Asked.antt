@@ -1,11 +1,10 @@
 -- The lines of business asked one after the other. Assumes nothing.
-use Rattle.std.proofs.Common.{◌≡◌, ℕ, ◌+◌, ◌<◌, ◌≤◌, Bool, true, false, cond, List, [], ◌∷◌, ◌++◌, map, length, get_or, take, is_ok, Some, None, Result, sym, refl, ap, ◌∙◌, append_assoc, arith, length-append}
+use Rattle.std.proofs.Common.{◌≡◌, ℕ, ◌+◌, ◌<◌, ◌≤◌, true, false, cond, List, [], ◌∷◌, ◌++◌, length, get_or, take, is_ok, Some, None, Result, sym, ap, ◌∙◌, append_assoc, arith, length-append}
 use Rattle.std.proofs.lemmas.List.{length-map, length-take-le, map_more}
 use Rattle.roots.proofs.Firsts.{none_more, found_at}
 use Rattle.charges.specs.declared.pairs.PairFault.{PairFault}
 use Rattle.charges.specs.Held.{pair_fault}
 use Rattle.roots.specs.Answers.{told}
-use Rattle.charges.specs.Leaves.{rate}
 use Rattle.charges.specs.Meaning.{Meaning, Terms, large, bounds, all_bounds, first_large}
 use Rattle.charges.proofs.Gathering.{pushed, bounds_small}
 

@@ -1,5 +1,5 @@
 -- The definitions give the rows worked by hand. Assumes nothing.
-use Rattle.std.proofs.Common.{◌≡◌, refl}
+use Rattle.std.proofs.Common.{refl}
 use Rattle.roots.specs.Form.{form}
 use Rattle.roots.specs.Root.{lower, upper, root_by}
 use Rattle.lines.specs.Weights.{weight}

@@ -1,10 +1,7 @@
 -- Equal parts make equal charges. Assumes nothing.
-use Rattle.std.proofs.Common.{◌≡◌, ℕ, List, ◌∷◌, ◌++◌, Result, ap, ◌∙◌}
+use Rattle.std.proofs.Common.{◌≡◌, ℕ, List, ◌∷◌, ap, ◌∙◌}
 use Rattle.roots.specs.declared.table.Table.{Table}
 use Rattle.roots.specs.Held.{correlation}
-use Rattle.charges.specs.declared.beside.Beside.{Beside}
-use Rattle.charges.specs.declared.charge.TooLargeAt.{TooLargeAt}
-use Rattle.charges.specs.Worked.{Answered}
 use Rattle.charges.specs.Meaning.{Meaning, module_of}
 use Rattle.tables.specs.declared.named.NamedTables.{NamedTables}
 use Rattle.tables.specs.Standing.{table, in_order}

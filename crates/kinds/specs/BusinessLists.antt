@@ -1,11 +1,11 @@
 -- The lines of business as a list of charges. Assumes nothing.
-use Rattle.std.specs.Prelude.{◌≡◌, ℕ, zero, suc, ◌+◌, ◌*◌, ◌<◌, ◌≤◌, List, [], ◌∷◌, ◌++◌, map, length, slice_index, slice_index_or, refl}
+use Rattle.std.specs.Prelude.{◌≡◌, ℕ, zero, suc, ◌+◌, ◌*◌, ◌<◌, List, [], ◌∷◌, map, length, slice_index, slice_index_or, refl}
 use Rattle.std.proofs.Common.{sym, ap, ap₂, ◌∙◌, arith}
 use Rattle.std.proofs.lemmas.List.{length-map, get_or-map}
 use Rattle.roots.specs.Form.{added}
 use Rattle.roots.specs.Root.{ceiling_root}
 use Rattle.charges.specs.Leaves.{rate}
-use Rattle.charges.specs.Meaning.{Meaning, widths, module_of}
+use Rattle.charges.specs.Meaning.{Meaning, widths}
 use Rattle.lines.specs.declared.fields.Fields.{Fields}
 use Rattle.lines.specs.Totals.{total}
 use Rattle.kinds.specs.declared.businesses.Businesses.{Businesses}

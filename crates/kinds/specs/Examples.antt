@@ -2,7 +2,6 @@
 use Rattle.std.specs.Prelude.{◌≡◌, ℕ, ◌*◌, cond, List, [], ◌∷◌, ◌==◌}
 use Rattle.roots.specs.Form.{form}
 use Rattle.roots.specs.Root.{lower, upper}
-use Rattle.charges.specs.declared.beside.Beside.{Beside}
 use Rattle.charges.specs.Formula.{minimum}
 use Rattle.choice.specs.Beside.{beside}
 use Rattle.charges.specs.Meaning.{Meaning, means, module_of}

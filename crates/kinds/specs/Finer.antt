@@ -1,15 +1,15 @@
 -- Totals of lines in a finer unit. Assumes nothing.
-use Rattle.std.specs.Prelude.{◌≡◌, ℕ, ◌+◌, ◌-◌, ◌*◌, max, Bool, true, false, cond, ◌&&◌, List, [], ◌∷◌, sum_by, ◌==◌, refl}
+use Rattle.std.specs.Prelude.{◌≡◌, ℕ, ◌+◌, ◌-◌, ◌*◌, Bool, true, false, cond, ◌&&◌, List, [], ◌∷◌, sum_by, ◌==◌, refl}
 use Rattle.std.proofs.Common.{ap, sym, ◌∙◌, arith, mul_assoc, mul-add}
 use Rattle.std.proofs.Math.Nat.{mul-sub}
 use Rattle.std.proofs.lemmas.List.Sums.{sum_by-cons}
-use Rattle.std.proofs.lemmas.Bool.{cond-true, cond-false, and_parts, eqb-true}
+use Rattle.std.proofs.lemmas.Bool.{cond-false, and_parts, eqb-true}
 use Rattle.std.proofs.lemmas.Bool.Decides.{nat_tests}
 use Rattle.roots.specs.Form.{sum}
 use Rattle.roots.proofs.Sums.{sum_eq, sum_mul}
 use Rattle.lines.specs.declared.fields.Fields.{Fields}
 use Rattle.lines.specs.Totals.{part, total, afters}
-use Rattle.lines.specs.Weights.{capped, factor, square, rated, span, weight}
+use Rattle.lines.specs.Weights.{capped, factor, square, span, weight}
 use Rattle.kinds.specs.Exact.{finer, in_unit, fall}
 
 -- a number of lines that grows with their amounts

@@ -1,5 +1,5 @@
 -- A charge of totals means the exact charge of the lines. Assumes nothing.
-use Rattle.std.specs.Prelude.{◌≡◌, ℕ, ◌+◌, ◌-◌, ◌*◌, ◌/◌, max, true, List, []}
+use Rattle.std.specs.Prelude.{◌≡◌, ℕ, ◌-◌, ◌*◌, ◌/◌, max, true, List, []}
 use Rattle.std.proofs.Common.{ap, ap₂, ◌∙◌, arith}
 use Rattle.std.proofs.Math.Path.{fun_ext}
 use Rattle.std.proofs.Math.Nat.{mul-sub}
@@ -7,7 +7,7 @@ use Rattle.roots.specs.Cells.{identity}
 use Rattle.roots.specs.Form.{form}
 use Rattle.roots.specs.Root.{lower, upper}
 use Rattle.charges.specs.Leaves.{difference, rate, square_root}
-use Rattle.charges.specs.Meaning.{Meaning, means}
+use Rattle.charges.specs.Meaning.{means}
 use Rattle.charges.specs.Quotients.{over}
 use Rattle.lines.specs.declared.fields.Fields.{Fields}
 use Rattle.lines.specs.Totals.{total}

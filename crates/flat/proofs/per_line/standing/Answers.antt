@@ -1,4 +1,4 @@
-use Rattle.std.proofs.Common.{◌≡◌, ℕ, sym, ap, ◌∙◌}
+use Rattle.std.proofs.Common.{ℕ, ap, ◌∙◌}
 use Rattle.roots.proofs.Sums.{sum_eq}
 use Rattle.lines.specs.Kinds.{number}
 use Rattle.flat.specs.Flats.{flat}

@@ -1,4 +1,4 @@
-use Rattle.std.proofs.Common.{ap, ◌∙◌}
+use Rattle.std.proofs.Common.{◌∙◌}
 use Rattle.charges.specs.Leaves.{parts}
 use Rattle.lines.specs.Kinds.{number}
 use Rattle.lines.specs.Totals.{total}

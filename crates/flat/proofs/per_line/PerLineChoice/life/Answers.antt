@@ -1,4 +1,4 @@
-use Rattle.std.proofs.Common.{◌≡◌, refl, ap}
+use Rattle.std.proofs.Common.{refl}
 use Rattle.choice.proofs.Same.{cons}
 use Rattle.flat.proofs.per_line.PerLineChoice.life.Goals as goal
 

@@ -1,4 +1,4 @@
-use Rattle.std.proofs.Common.{◌≡◌, ℕ, ◌+◌, ap, ◌∙◌, rules, tests, arith}
+use Rattle.std.proofs.Common.{◌≡◌, ◌+◌, ap, ◌∙◌, rules, tests, arith}
 use Rattle.roots.proofs.Fill.{made_by}
 use Rattle.lines.specs.Tally.{first_of}
 use Rattle.lines.specs.Totals.{total}

@@ -1,8 +1,6 @@
-use Rattle.std.proofs.Common.{◌≡◌, ◌++◌, sym, refl, ap, ◌∙◌, append-nil, arith}
-use Rattle.std.proofs.lemmas.List.{take_all}
+use Rattle.std.proofs.Common.{sym, ◌∙◌, arith}
 use Rattle.charges.specs.Held.{held}
 use Rattle.charges.specs.Leaves.{rated}
-use Rattle.charges.specs.Meaning.{all_bounds, first_large}
 use Rattle.kinds.specs.Means.{businesses}
 use Rattle.kinds.proofs.Asked.{asked_more, asked_large}
 use Rattle.kinds.specs.Kept.{rated_terms}
