@@ -1,7 +1,7 @@
 #!/bin/sh
 # Lists the places of each point in src/: sh tools/places.sh [POINT]
 cd "$(dirname "$0")/.." || exit 1
-files=$(find crates -path '*/src/*' -name '*.rt' | sort)
+files=$(find crates/*/src -name '*.rt' | sort)
 list() { # point, pattern
     [ -n "$only" ] && [ "$only" != "$1" ] && return
     echo "== point $1: $(grep -nE "$2" $files | wc -l)"

@@ -35,6 +35,7 @@ pub enum Fault {
     Extra,
 }
 
+// Written out: the text is part of the contracts, and a derived one would promise none.
 impl fmt::Display for Combination {
     ghost output = { λ c. Some (combination_text c) };
 

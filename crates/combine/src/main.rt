@@ -33,9 +33,10 @@ fn combine(rt: &HostRuntime) -> anyhow::Result<ExitCode> {
     }
 }
 
-fn run(rt: &HostRuntime) -> anyhow::Result<ExitCode> {
-    let Some(word) = env::args(rt)?.skip(1).next() else {
-        return combine(rt);
+// The programs share no `main`: it could promise nothing, since no clause speaks of arguments or prints.
+fn main(rt: HostRuntime) -> anyhow::Result<ExitCode> {
+    let Some(word) = env::args(&rt)?.nth(1) else {
+        return combine(&rt);
     };
     if word.as_str() == "--help" {
         print!(rt; "{USAGE}")?;
@@ -43,8 +44,4 @@ fn run(rt: &HostRuntime) -> anyhow::Result<ExitCode> {
     }
     eprint!(rt; "{USAGE}")?;
     Ok(ExitCode::FAILURE)
-}
-
-fn main(rt: HostRuntime) -> anyhow::Result<ExitCode> {
-    run(&rt)
 }

@@ -27,6 +27,7 @@ pub enum FilingFault {
     TooLarge(u8),
 }
 
+// No `Display`: a refusal is told by its numbers.
 impl FilingFault {
     /// The refusal's number and its two places.
     pub fn shown(self) -> (u8, usize, usize)

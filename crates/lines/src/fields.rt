@@ -1,6 +1,7 @@
 ghost use Rattle.std.specs.Prelude.{◌≡◌};
 
-/// The fields of a line as given, not judged yet.
+/// The fields of a line as given, not judged yet: the kind is a number, since it may be none that a
+/// `Kind` has.
 #[derive(Clone, Copy, PartialEq, Eq, Debug)]
 pub struct Fields {
     pub kind: u8,
