@@ -42,7 +42,8 @@ pub const LIMIT: u32 = 16_777_215;
 #[derive(Clone, Copy, PartialEq, Eq, Debug)]
 pub struct TooLarge;
 
-/// The first charge of a list that is too large, by its place from 1; of the figures, the lowest.
+/// The first charge of a list that is too large, by its place from 1; among the figures, the lowest that is
+/// too large, by its number.
 #[derive(Clone, Copy, PartialEq, Eq, Debug)]
 pub struct TooLargeAt(pub u8);
 

@@ -1,7 +1,8 @@
 ghost use Rattle.std.specs.Prelude.{◌≡◌, ℕ, ◌<◌, ◌≤◌, length, slice_index_or};
 
 /// At most 27 lows and highs in order, each at most 16,777,215. They are an array with its length,
-/// since these are plain data that is copied, and an `ArrayVec` is not `Copy`.
+/// since these are plain data that is copied, and an `ArrayVec` is not `Copy`; for the same reason they and
+/// `Amounts` are no one generic type.
 #[derive(Clone, Copy)]
 pub struct Pairs {
     values: [(u32, u32); 28],
@@ -21,8 +22,8 @@ pub enum PairFault {
     Large,
 }
 
-/// The low or the high of a pair. An enum and no closure: a contract has its two cases, and knows that
-/// neither passes the limit.
+/// The low or the high of a pair. A closure in its place would be no plainer: its contract would have to say
+/// that what it answers of a pair that is held passes no limit.
 #[derive(Clone, Copy)]
 pub(crate) enum Side {
     Low,

@@ -11,9 +11,9 @@ mod make;
 /// What a rate is counted in.
 #[derive(Clone, Copy)]
 pub enum Parts {
-    Hundredths,
-    TenThousandths,
-    Millionths,
+    Hundredths = 100,
+    TenThousandths = 10_000,
+    Millionths = 1_000_000,
 }
 
 /// A total times a number of hundredths, ten-thousandths or millionths, divided once.

@@ -6,6 +6,9 @@ ghost use Rattle.choice.specs.Beside.{least_capital, beside as beside_of};
 use charges::Beside;
 use lines::{Kind, Totals};
 
+// The promises are made of every list of lines with these totals. The module is in the plural, since it may
+// not have the name of the function.
+
 // The least capital of an insurer without life lines, and of one with them, in units.
 const WITHOUT_LIFE: u32 = 10_000;
 
@@ -35,7 +38,7 @@ fn least(totals: &Totals) -> u32
 }
 
 /// What the formula takes beside its charges.
-pub fn beside(totals: &Totals) -> Beside
+pub(super) fn beside(totals: &Totals) -> Beside
     ensures { (ls : List Given) → Tally totals.now ls → result ≡ beside_of ls }
 {
     Beside {

@@ -1,23 +1,12 @@
-ghost use Rattle.std.specs.Prelude.{◌≡◌, ◌+◌, ◌++◌};
+ghost use Rattle.std.specs.Prelude.{◌≡◌, ◌++◌};
 ghost use Rattle.charges.specs.Meaning.{widths};
 ghost use Rattle.choice.specs.Basis.{Basis, Chosen, basis, shown as shown_of};
 
 use super::given::Given;
-use charges::Members;
+use super::lists::Lists;
 
 /// A choice of charges for figures 1 to 23, made from lines, their totals, and tables.
-pub trait Choice {
-    /// Figures 1 to 6.
-    type Market: Members + Drop;
-    /// Figures 7 to 13.
-    type Life: Members + Drop;
-    /// Figures 14 to 16.
-    type Health: Members + Drop;
-    /// Figures 17 and 18.
-    type NonLife: Members + Drop;
-    /// Figures 19 to 23, the members of the basic SCR.
-    type Basic: Members + Drop;
-
+pub trait Choice: Lists {
     // what the charges mean, for all lines and tables: equal ones give equal results in every unit
     ghost meaning: { Chosen };
 
@@ -40,13 +29,6 @@ pub trait Choice {
     /// Figures 19 to 23, the members of the basic SCR.
     fn basic(given: &Given) -> Self::Basic
         ensures { Self.Basic.Members.each result ≡ meaning.basic (basis given.now) };
-
-    // how many charges there are
-    ghost shown: { Self.Market.Members.count + Self.Life.Members.count + Self.Health.Members.count + Self.NonLife.Members.count ≡ 18 };
-
-    ghost five: { Self.Basic.Members.count ≡ 5 };
-
-    ghost proper: { Self.Market.Members.proper × Self.Life.Members.proper × Self.Health.Members.proper × Self.NonLife.Members.proper × Self.Basic.Members.proper };
 
     // the greatest widths depend on the choice alone
     ghost alike: { (b c : Basis) → widths (shown_of meaning b ++ meaning.basic b) ≡ widths (shown_of meaning c ++ meaning.basic c) };

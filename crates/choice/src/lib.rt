@@ -5,8 +5,9 @@ mod besides;
 mod choice;
 mod figures;
 mod given;
+mod lists;
 
-pub use besides::beside;
 pub use choice::Choice;
-pub use figures::figures_by;
+pub use figures::{figures_by, figures_of};
 pub use given::Given;
+pub use lists::Lists;

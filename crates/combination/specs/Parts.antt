@@ -1,4 +1,4 @@
--- What the two lines give, and the reply. Assumes nothing.
+-- What the two lines give. Assumes nothing.
 use Rattle.std.specs.Prelude.{◌≡◌, ℕ, List, length, Ok, Err, Result}
 use Rattle.roots.specs.declared.amounts.Amounts.{Amounts}
 use Rattle.roots.specs.declared.amounts.AmountFault.{AmountFault}

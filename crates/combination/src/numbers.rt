@@ -22,6 +22,7 @@ pub(super) fn read_numbers(line: &[u8]) -> Result<ArrayVec<u32, MOST>, LineFault
     ensures { NumbersRead (words line.now) result }
 {
     let mut numbers = ArrayVec::new();
+    // by hand: the count goes on where there is no more room, and is wanted behind the loop
     let mut count = 0;
     for word in line.split(|b| is_blank(*b)).filter(|word| !word.is_empty()) {
         count += 1;

@@ -14,7 +14,7 @@ use std::alloc::{AllocError, Global};
 
 const LONGEST: usize = 65_536;
 
-// This and the next are no `From`: they take a count beside the fault.
+// This and the next are no `From`: they take counts beside the fault.
 fn amount_fault(fault: AmountFault, given: usize) -> Fault
     ensures { result ≡ amount_fault fault given }
 {

@@ -33,7 +33,7 @@ fn combine(rt: &HostRuntime) -> anyhow::Result<ExitCode> {
     }
 }
 
-// The programs share no `main`: it could promise nothing, since no clause speaks of arguments or prints.
+// The programs share no `main`: it would take a usage text and a closure, and be no plainer than these lines.
 fn main(rt: HostRuntime) -> anyhow::Result<ExitCode> {
     let Some(word) = env::args(&rt)?.nth(1) else {
         return combine(&rt);

@@ -3,11 +3,10 @@
 
 use kinds::figures;
 use lines::{Line, Totals};
-use roots::{Size, Table};
 use sample::{book, entries};
 use std::env;
 use std::process::ExitCode;
-use tables::{NamedTables, Which};
+use tables::{EntriesFault, NamedTables, Tables, Which};
 
 const USAGE: &str = "usage: company
 Prints the 28 figures of a company under the tables of QIS3, one a line: number, low, high.
@@ -25,20 +24,13 @@ fn totals(rt: &HostRuntime) -> anyhow::Result<Option<Totals>> {
     Ok(Totals::of(&lines))
 }
 
-fn table(members: usize, which: Which) -> Option<Table> {
-    Table::from_upper(Size::new(members)?, entries(which)).ok()
-}
-
-fn tables() -> Option<NamedTables> {
-    Some(NamedTables {
-        basic: table(5, Which::Basic)?,
-        market: table(6, Which::Market)?,
-        equity: table(2, Which::Equity)?,
-        life: table(7, Which::Life)?,
-        health: table(3, Which::Health)?,
-        non_life: table(2, Which::NonLife)?,
-        business: table(15, Which::Business)?,
-    })
+// The tables of QIS3.
+fn tables() -> Result<NamedTables, EntriesFault> {
+    let mut tables = Tables::uncorrelated();
+    for which in Which::ALL {
+        tables.replace(u8::from(which), entries(which))?;
+    }
+    Ok(NamedTables::from(tables))
 }
 
 fn print_figures(rt: &HostRuntime) -> anyhow::Result<ExitCode> {
@@ -46,7 +38,7 @@ fn print_figures(rt: &HostRuntime) -> anyhow::Result<ExitCode> {
         eprint!(rt; "company: a line breaks the rules of its kind\n")?;
         return Ok(ExitCode::FAILURE);
     };
-    let Some(tables) = tables() else {
+    let Ok(tables) = tables() else {
         eprint!(rt; "company: a table is not in order\n")?;
         return Ok(ExitCode::FAILURE);
     };
@@ -61,7 +53,7 @@ fn print_figures(rt: &HostRuntime) -> anyhow::Result<ExitCode> {
     Ok(ExitCode::SUCCESS)
 }
 
-// The programs share no `main`: it could promise nothing, since no clause speaks of arguments or prints.
+// The programs share no `main`: it would take a usage text and a closure, and be no plainer than these lines.
 fn main(rt: HostRuntime) -> anyhow::Result<ExitCode> {
     let Some(word) = env::args(&rt)?.nth(1) else {
         return print_figures(&rt);

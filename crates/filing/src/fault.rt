@@ -27,7 +27,7 @@ pub enum FilingFault {
     TooLarge(u8),
 }
 
-// No `Display`: a refusal is told by its numbers.
+// By a rule of the project a refusal is told as three numbers, so there is no `Display` and no struct.
 impl FilingFault {
     /// The refusal's number and its two places.
     pub fn shown(self) -> (u8, usize, usize)

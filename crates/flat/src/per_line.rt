@@ -6,7 +6,7 @@ ghost use Rattle.flat.specs.PerLine.{per_line, lines_of};
 ghost use Rattle.std.proofs.Common.{refl};
 
 use super::flat::Flat;
-use choice::{Choice, Given};
+use choice::{Choice, Given, Lists};
 use lines::Kind;
 
 /// Two flat charges.
@@ -35,7 +35,7 @@ fn standing(given: &Given, kind: Kind) -> Flat
     Flat::exactly(given.totals().lines(kind) as u32)
 }
 
-impl Choice for PerLine {
+impl Lists for PerLine {
     type Market = Six;
 
     type Life = Seven;
@@ -46,13 +46,15 @@ impl Choice for PerLine {
 
     type Basic = Five;
 
-    ghost meaning = { per_line };
-
     ghost shown = { refl };
 
     ghost five = { refl };
 
     ghost proper = { ((tt, (tt, (tt, (tt, (tt, (tt, tt)))))), (tt, (tt, (tt, (tt, (tt, (tt, (tt, tt))))))), (tt, (tt, (tt, tt))), (tt, (tt, tt)), (tt, (tt, (tt, (tt, (tt, tt)))))) };
+}
+
+impl Choice for PerLine {
+    ghost meaning = { per_line };
 
     ghost alike = { λ b c. refl };
 

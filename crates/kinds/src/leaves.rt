@@ -13,7 +13,7 @@ use charges::{Difference, Parts, Rate, RootOfSquares};
 use lines::{Kind, Totals};
 
 // Each promise is made of every list of lines with these totals. A ghost field of `Totals` could hold one
-// list only, so the premise stays in the clauses.
+// list only, and a word for the premise would hide from each clause of which lines it speaks.
 
 /// So many parts of the total of a kind and class.
 pub(super) fn part(totals: &Totals, kind: Kind, class: u8, numerator: u32, parts: Parts) -> Rate

@@ -19,6 +19,7 @@ pub(super) struct Maker<'a> {
     pub(super) tables: &'a NamedTables,
 }
 
+// As in the functions of totals alone, each promise is made of all lines and tables that these stand for.
 impl<'a> Maker<'a> {
     /// Figures 1 to 6.
     pub(super) fn market(&self) -> MarketParts

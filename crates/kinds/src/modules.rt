@@ -31,7 +31,7 @@ pub type HealthParts = (Rate, (Rate, (Rate, ())));
 /// Figures 17 and 18.
 pub type NonLifeParts = (Module<Businesses>, (RootOfSquares, ()));
 
-/// The modules of figures 19 to 23, nested.
+/// The charges of figures 19 to 23, nested.
 pub type BasicParts = (
     Module<MarketParts>,
     (

@@ -7,7 +7,7 @@ ghost use Rattle.kinds.specs.Ours.{ours};
 
 use super::maker::Maker;
 use super::modules::{Basic, HealthParts, LifeParts, MarketParts, NonLifeParts};
-use choice::{Choice, Given};
+use choice::{Choice, Given, Lists};
 
 /// Our own charges.
 pub struct Ours;
@@ -23,7 +23,7 @@ fn maker<'a>(given: &'a Given) -> Maker<'a>
     }
 }
 
-impl Choice for Ours {
+impl Lists for Ours {
     type Market = MarketParts;
 
     type Life = LifeParts;
@@ -34,13 +34,15 @@ impl Choice for Ours {
 
     type Basic = Basic;
 
-    ghost meaning = { ours };
-
     ghost shown = { refl };
 
     ghost five = { refl };
 
     ghost proper = { ((tt, ((lit≤ tt, lit≤ tt, (tt, (tt, tt))), (tt, (tt, (tt, (tt, tt)))))), (tt, (tt, (tt, (tt, (tt, (tt, (tt, tt))))))), (tt, (tt, (tt, tt))), ((lit≤ tt, lit≤ tt, tt), (tt, tt)), tt) };
+}
+
+impl Choice for Ours {
+    ghost meaning = { ours };
 
     ghost alike = { λ b c. refl };
 

@@ -8,8 +8,9 @@ ghost use Rattle.kinds.specs.Examples.{Examples};
 ghost use Rattle.kinds.specs.Ours.{ours, our_widths};
 
 use super::maker::Maker;
-use charges::{Charges, TooLargeAt, work_out};
-use choice::beside;
+use super::ours::Ours;
+use charges::{Charges, TooLargeAt};
+use choice::figures_of;
 use lines::Totals;
 use tables::NamedTables;
 
@@ -32,5 +33,5 @@ pub fn figures(
         non_life: maker.non_life(),
         basic: maker.basic(),
     };
-    work_out(&charges, &tables.basic, &beside(totals), place)
+    figures_of::<Ours>(&charges, totals, tables, place)
 }

@@ -16,7 +16,7 @@ pub enum LineFault {
     Second(usize),
 }
 
-// No `Display`: a refusal is told by its numbers.
+// By a rule of the project a refusal is told as three numbers, so there is no `Display` and no struct.
 impl LineFault {
     /// The refusal's number, the line's number and the field's place.
     pub fn shown(self) -> (u8, usize, usize)

@@ -40,7 +40,7 @@ pub struct Rule {
 // The limit of an amount that may be of any size.
 const ANY: u32 = 4_294_967_295;
 
-// The limit of an amount that is squared.
+// The limit of an amount that is squared: no root of one alone is then too large.
 const SQUARED: u32 = 16_777_215;
 
 fn limits(classes: u8, rate: u16, first: u32, second: u32) -> Rule
@@ -58,6 +58,7 @@ fn limits(classes: u8, rate: u16, first: u32, second: u32) -> Rule
 #[derive(Clone, Copy, PartialEq, Eq, Debug)]
 pub struct UnknownKind(pub u8);
 
+// Written out: no derive makes a variant of its number.
 impl TryFrom<u8> for Kind {
     type Error = UnknownKind;
 

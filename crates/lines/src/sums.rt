@@ -11,7 +11,8 @@ pub(crate) struct Sum {
     pub(crate) count: u64,
 }
 
-// Sums by kind and class: 16 cells for each of 32 kinds.
+// Sums by kind and class: 16 cells for each of 32 kinds, one after the other, as the cells of a table in
+// `roots` are, since arrays of arrays found no proof there.
 #[derive(Clone, Copy)]
 pub(crate) struct Sums {
     cells: [Sum; 512],

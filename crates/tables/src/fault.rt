@@ -10,7 +10,7 @@ pub enum EntriesFault {
     Entry(u8, usize),
 }
 
-// No `Display`: a refusal is told by its numbers.
+// By a rule of the project a refusal is told as three numbers, so there is no `Display` and no struct.
 impl EntriesFault {
     /// The refusal's number, the table's number and the entry's position.
     pub fn shown(self) -> (u8, usize, usize)

@@ -1,4 +1,4 @@
-//! The seven correlation tables of a filing, by their numbers.
+//! The seven correlation tables of a filing, by their numbers, and seven tables by name.
 #![tactic(auto)]
 
 mod fault;

@@ -7,7 +7,7 @@ use super::tables::Tables;
 use super::which::Which;
 use roots::Table;
 
-/// NamedTables correlation tables, each by its name and of any size.
+/// Seven correlation tables, each by its name and of any size.
 #[derive(Clone, Copy)]
 pub struct NamedTables {
     /// 1: market, default, life, health, non-life.

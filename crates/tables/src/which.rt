@@ -20,10 +20,24 @@ pub enum Which {
     Business = 7,
 }
 
+impl Which {
+    /// The seven, in the order of their numbers.
+    pub const ALL: [Which; 7] = [
+        Which::Basic,
+        Which::Market,
+        Which::Equity,
+        Which::Life,
+        Which::Health,
+        Which::NonLife,
+        Which::Business,
+    ];
+}
+
 /// A number that no table has.
 #[derive(Clone, Copy, PartialEq, Eq, Debug)]
 pub struct UnknownTable(pub u8);
 
+// Written out: no derive makes a variant of its number.
 impl TryFrom<u8> for Which {
     type Error = UnknownTable;
 

@@ -19,16 +19,6 @@ const YEAR: u16 = 2031;
 
 const QUARTER: u8 = 4;
 
-const TABLES: [Which; 7] = [
-    Which::Basic,
-    Which::Market,
-    Which::Equity,
-    Which::Life,
-    Which::Health,
-    Which::NonLife,
-    Which::Business,
-];
-
 // The number of the line that is struck.
 const STRUCK: usize = 8;
 
@@ -81,7 +71,7 @@ fn replace(rt: &HostRuntime, filing: &mut Filing, which: Which) -> io::Result<()
 
 // The quarter's calls on a newly opened filing.
 fn fill(rt: &HostRuntime, filing: &mut Filing) -> io::Result<()> {
-    for which in TABLES {
+    for which in Which::ALL {
         replace(rt, filing, which)?;
     }
     let book = book();
@@ -130,7 +120,7 @@ fn file(rt: &HostRuntime) -> io::Result<ExitCode> {
     work_out(rt, &filing)
 }
 
-// The programs share no `main`: it could promise nothing, since no clause speaks of arguments or prints.
+// The programs share no `main`: it would take a usage text and a closure, and be no plainer than these lines.
 fn main(rt: HostRuntime) -> anyhow::Result<ExitCode> {
     let Some(word) = env::args(&rt)?.nth(1) else {
         return Ok(file(&rt)?);

@@ -2,27 +2,11 @@
 use charges::TooLargeAt;
 use kinds::figures;
 use lines::{Fields, Line, Totals};
-use roots::{Size, Table};
 use std::test::*;
-use tables::NamedTables;
+use tables::{NamedTables, Tables};
 
-fn table(members: usize) -> Result<Table, Fail> {
-    let Some(size) = Size::new(members) else {
-        return Err(Fail::new("no size"));
-    };
-    Ok(Table::uncorrelated(size))
-}
-
-fn tables() -> Result<NamedTables, Fail> {
-    Ok(NamedTables {
-        basic: table(5)?,
-        market: table(6)?,
-        equity: table(2)?,
-        life: table(7)?,
-        health: table(3)?,
-        non_life: table(2)?,
-        business: table(15)?,
-    })
+fn tables() -> NamedTables {
+    NamedTables::from(Tables::uncorrelated())
 }
 
 // The figures of one line that stands alone.
@@ -33,7 +17,7 @@ fn alone(given: Fields, place: &mut [(u32, u32); 28]) -> Result<Result<(), TooLa
     let Some(totals) = Totals::of(&[line]) else {
         return Err(Fail::new("too many lines"));
     };
-    let tables = tables()?;
+    let tables = tables();
     Ok(figures(&totals, &tables, place))
 }
 
@@ -43,7 +27,7 @@ fn no_lines(rt: HostRuntime) -> Result<(), Fail> {
         return Err(Fail::new("too many lines"));
     };
     let mut place = [(1, 2); 28];
-    let tables = tables()?;
+    let tables = tables();
     assert_eq!(rt; figures(&totals, &tables, &mut place), Ok(()));
     let mut least = [(0, 0); 28];
     least[26] = (10_000, 10_000);

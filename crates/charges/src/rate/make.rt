@@ -9,11 +9,7 @@ impl Parts {
         ensures value { result ≡ parts_of self }
         ensures some { 0 < result }
     {
-        match self {
-            Parts::Hundredths => 100,
-            Parts::TenThousandths => 10_000,
-            Parts::Millionths => 1_000_000,
-        }
+        self as u32
     }
 }
 

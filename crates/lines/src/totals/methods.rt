@@ -11,6 +11,7 @@ use super::Totals;
 // The most lines that are totalled.
 const MOST: usize = 128;
 
+// Kind and class are arguments of their own: a pair of them would be made at each call and taken apart here.
 impl Totals {
     /// The totals of these lines, or `None` of more than 128.
     pub fn of(lines: &[Line]) -> Option<Totals>

@@ -7,6 +7,7 @@ use super::{AmountFault, Amounts};
 
 const MOST: usize = 16;
 
+// What an amount under a table may be; a charge has its limit for a reason of its own.
 const LARGEST: u32 = 16_777_215;
 
 impl Amounts {

@@ -6,6 +6,7 @@ ghost use Rattle.roots.specs.Held.{members_of};
 
 use super::Size;
 
+// No `TryFrom`: of a number that is no size there is nothing to say but that.
 impl Size {
     /// The size of that many members, or `None` outside 2 to 16.
     pub fn new(members: usize) -> Option<Size>

@@ -38,13 +38,14 @@ fn place(which: Which) -> usize
     which as usize - 1
 }
 
+// A table that is to be replaced goes by its number, as given: no table may have it.
 impl Tables {
     /// 0 off every diagonal.
     pub fn uncorrelated() -> Tables
         ensures { entries result ≡ none_correlated }
     {
         Tables {
-            // not by `map` over the sizes: that each is 2 to 16 is known call by call
+            // `map` over the sizes was tried: that each is 2 to 16 found no proof
             all: [
                 uncorrelated(5),
                 uncorrelated(6),

@@ -4,6 +4,7 @@ ghost use Rattle.working.specs.Figures.{number_of, figure_numbered};
 
 use super::Figure;
 
+// No `TryFrom`: of a number that is no figure there is nothing to say but that.
 impl Figure {
     /// The figure with that number, or `None` outside 1 to 28.
     pub fn new(number: u8) -> Option<Figure>

@@ -15,7 +15,7 @@ widths_are b = refl
 pub returns-clause-answer : goal.returns-clause-answer
 returns-clause-answer c = λ ls tally.
     let b = on ls c.args.tables.now in
-    answered_same _ _ _ _ _ _ _ _ _ _ _ _ _ _ _ _ _ refl (c.beside.ensures ls tally) (c.market.ensures b tally refl) (c.life.ensures b tally refl) (c.health.ensures b tally refl) (c.non_life.ensures b tally refl) (c.basic.ensures b tally refl) c.work_out.ensures
+    answered_same _ _ _ _ _ _ _ _ _ _ _ _ _ _ _ _ _ refl refl (c.market.ensures b tally refl) (c.life.ensures b tally refl) (c.health.ensures b tally refl) (c.non_life.ensures b tally refl) (c.basic.ensures b tally refl) (c.figures_of.ensures ls tally)
 
 pub returns-clause-width : goal.returns-clause-width
 returns-clause-width c = widths_are
