@@ -1,5 +1,5 @@
 ghost use Rattle.std.specs.Prelude.{◌≡◌, ◌+◌, ◌*◌, ◌^◌, ◌≤◌, List};
-ghost use Rattle.lines.specs.declared.fields.Fields.{Fields as Given};
+ghost use Rattle.lines.specs.declared.fields.Fields.{Fields};
 ghost use Rattle.lines.specs.Tally.{Tally};
 ghost use Rattle.choice.specs.Beside.{least_capital, beside as beside_of};
 
@@ -24,7 +24,7 @@ fn percentages(life: u64, non_life: u64, health: u64) -> u64
 
 // By whether a life line stands.
 fn least(totals: &Totals) -> u32
-    ensures { (ls : List Given) → Tally totals.now ls → result ≡ least_capital ls }
+    ensures { (ls : List Fields) → Tally totals.now ls → result ≡ least_capital ls }
 {
     let first = totals.lines(Kind::Mortality)
         + totals.lines(Kind::Longevity)
@@ -39,7 +39,7 @@ fn least(totals: &Totals) -> u32
 
 /// What the formula takes beside its charges.
 pub(super) fn beside(totals: &Totals) -> Beside
-    ensures { (ls : List Given) → Tally totals.now ls → result ≡ beside_of ls }
+    ensures { (ls : List Fields) → Tally totals.now ls → result ≡ beside_of ls }
 {
     Beside {
         premiums: percentages(

@@ -1,6 +1,6 @@
 ghost use Rattle.std.specs.Prelude.{◌≡◌, ◌*◌, true, false, List};
 ghost use Rattle.charges.specs.Leaves.{differs, rated as rated_of, rooted};
-ghost use Rattle.lines.specs.declared.fields.Fields.{Fields as Given};
+ghost use Rattle.lines.specs.declared.fields.Fields.{Fields};
 ghost use Rattle.lines.specs.Kinds.{number};
 ghost use Rattle.lines.specs.Tally.{Tally};
 ghost use Rattle.kinds.specs.Exact.{exactly, share, fall as fall_of, interest as interest_of, spread as spread_of, currency as currency_of, root_of_squares};
@@ -18,21 +18,21 @@ use lines::{Kind, Totals};
 /// So many parts of the total of a kind and class.
 pub(super) fn part(totals: &Totals, kind: Kind, class: u8, numerator: u32, parts: Parts) -> Rate
     requires { square (number kind) ≡ false }
-    ensures { (ls : List Given) → Tally totals.now ls → rated_of result ≡ exactly 1 (λ s. share (numerator * total (number kind) class s) (parts_of parts)) ls }
+    ensures { (ls : List Fields) → Tally totals.now ls → rated_of result ≡ exactly 1 (λ s. share (numerator * total (number kind) class s) (parts_of parts)) ls }
 {
     Rate::new(totals.first(kind, class), numerator, parts)
 }
 
 /// The spread charge.
 pub(super) fn spread(totals: &Totals) -> Rate
-    ensures { (ls : List Given) → Tally totals.now ls → rated_of result ≡ exactly 1 spread_of ls }
+    ensures { (ls : List Fields) → Tally totals.now ls → rated_of result ≡ exactly 1 spread_of ls }
 {
     Rate::new(totals.whole(Kind::Spread), 1, Parts::Millionths)
 }
 
 /// The currency charge.
 pub(super) fn currency(totals: &Totals) -> Rate
-    ensures { (ls : List Given) → Tally totals.now ls → rated_of result ≡ exactly 1 currency_of ls }
+    ensures { (ls : List Fields) → Tally totals.now ls → rated_of result ≡ exactly 1 currency_of ls }
 {
     let long = totals.first(Kind::Currency, 1);
     let short = totals.first(Kind::Currency, 2);
@@ -42,7 +42,7 @@ pub(super) fn currency(totals: &Totals) -> Rate
 /// The drop of the assets and liabilities of a kind.
 pub(super) fn fall(totals: &Totals, kind: Kind, asset: u8, liability: u8) -> Difference
     requires { square (number kind) ≡ false }
-    ensures { (ls : List Given) → Tally totals.now ls → differs result ≡ exactly 0 (λ s. share (fall_of (number kind) asset liability s) 1) ls }
+    ensures { (ls : List Fields) → Tally totals.now ls → differs result ≡ exactly 0 (λ s. share (fall_of (number kind) asset liability s) 1) ls }
 {
     Difference::new(
         totals.first(kind, asset) + totals.second(kind, liability),
@@ -52,7 +52,7 @@ pub(super) fn fall(totals: &Totals, kind: Kind, asset: u8, liability: u8) -> Dif
 
 /// The interest charge.
 pub(super) fn interest(totals: &Totals) -> Difference
-    ensures { (ls : List Given) → Tally totals.now ls → differs result ≡ exactly 0 interest_of ls }
+    ensures { (ls : List Fields) → Tally totals.now ls → differs result ≡ exactly 0 interest_of ls }
 {
     fall(totals, Kind::Interest, 1, 3).larger(fall(totals, Kind::Interest, 2, 4))
 }
@@ -60,7 +60,7 @@ pub(super) fn interest(totals: &Totals) -> Difference
 /// The root of the squares of a kind's amounts.
 pub(super) fn squares(totals: &Totals, kind: Kind) -> RootOfSquares
     requires { square (number kind) ≡ true }
-    ensures { (ls : List Given) → Tally totals.now ls → rooted result ≡ root_of_squares (number kind) ls }
+    ensures { (ls : List Fields) → Tally totals.now ls → rooted result ≡ root_of_squares (number kind) ls }
 {
     RootOfSquares::new(totals.first(kind, 0))
 }

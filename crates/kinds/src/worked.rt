@@ -1,6 +1,6 @@
 ghost use Rattle.std.specs.Prelude.{◌≡◌, List};
 ghost use Rattle.charges.specs.Meaning.{widths};
-ghost use Rattle.lines.specs.declared.fields.Fields.{Fields as Given};
+ghost use Rattle.lines.specs.declared.fields.Fields.{Fields};
 ghost use Rattle.lines.specs.Tally.{Tally};
 ghost use Rattle.choice.specs.Basis.{Basis, on};
 ghost use Rattle.choice.specs.Figured.{Figured, all_figures};
@@ -21,7 +21,7 @@ pub fn figures(
     tables: &NamedTables,
     place: &mut [(u32, u32); 28],
 ) -> Result<(), TooLargeAt>
-    ensures answer { (ls : List Given) → Tally totals.now ls → Figured ours (on ls tables.now) place.old place.new result }
+    ensures answer { (ls : List Fields) → Tally totals.now ls → Figured ours (on ls tables.now) place.old place.new result }
     ensures width { (b : Basis) → widths (all_figures ours b) ≡ our_widths }
     ensures worked { Examples }
 {

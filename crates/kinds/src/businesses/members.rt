@@ -1,5 +1,5 @@
 ghost use Rattle.std.specs.Prelude.{◌≡◌, List};
-ghost use Rattle.lines.specs.declared.fields.Fields.{Fields as Given};
+ghost use Rattle.lines.specs.declared.fields.Fields.{Fields};
 ghost use Rattle.lines.specs.Tally.{Tally};
 ghost use Rattle.kinds.specs.Means.{businesses};
 ghost use Rattle.kinds.specs.Ours.{all_businesses};
@@ -14,7 +14,7 @@ use std::array;
 impl Businesses {
     /// The totals of the lines of business.
     pub fn of(totals: &Totals) -> Businesses
-        ensures { (ls : List Given) → Tally totals.now ls → businesses result ≡ all_businesses ls }
+        ensures { (ls : List Fields) → Tally totals.now ls → businesses result ≡ all_businesses ls }
     {
         let volumes = array::from_fn(|i| totals.first(Kind::PremiumReserve, i as u8 + 1));
         Businesses { volumes }
