@@ -1,13 +1,10 @@
--- Equal parts make equal charges. Assumes nothing.
-use Rattle.std.proofs.Common.{◌≡◌, ℕ, List, ◌∷◌, ap, ◌∙◌}
+-- Equal parts make equal modules. Assumes nothing.
+use Rattle.std.proofs.Common.{◌≡◌, ℕ, List, ap, ◌∙◌}
 use Rattle.roots.specs.declared.table.Table.{Table}
 use Rattle.roots.specs.Held.{correlation}
 use Rattle.charges.specs.Meaning.{Meaning, module_of}
 use Rattle.tables.specs.declared.named.NamedTables.{NamedTables}
 use Rattle.tables.specs.Standing.{table, in_order}
-
-pub cons : (x y : Meaning) (xs ys : List Meaning) → x ≡ y → xs ≡ ys → (x ∷ xs) ≡ (y ∷ ys)
-cons x y xs ys p q = ap (λ (m : Meaning). m ∷ xs) p ∙ ap (λ (l : List Meaning). y ∷ l) q
 
 -- the module of charges under the table with a number
 pub module_same : (number : ℕ) (ts : NamedTables) (all : List (ℕ → ℕ → ℕ)) (t u : Table) (xs ys : List Meaning) → in_order ts ≡ all → t ≡ u → correlation u ≡ table (in_order ts) number → xs ≡ ys → module_of (correlation t) xs ≡ module_of (table all number) ys

@@ -1,6 +1,7 @@
 use Rattle.std.proofs.Common.{refl, ap, ◌∙◌}
 use Rattle.kinds.specs.Means.{market_parts, life_parts, health_parts, nonlife_parts}
-use Rattle.kinds.proofs.Same.{cons, module_same}
+use Rattle.choice.proofs.Same.{cons}
+use Rattle.kinds.proofs.Same.{module_same}
 use Rattle.kinds.proofs.maker.Maker.basic.Goals as goal
 
 pub returns : goal.returns

@@ -1,5 +1,5 @@
 use Rattle.std.proofs.Common.{refl}
-use Rattle.kinds.proofs.Same.{cons}
+use Rattle.choice.proofs.Same.{cons}
 use Rattle.kinds.proofs.maker.Maker.health.Goals as goal
 
 pub returns : goal.returns
