@@ -7,7 +7,7 @@ ghost use Rattle.choice.specs.Basis.{basis};
 ghost use Rattle.choice.specs.Beside.{beside as beside_of};
 ghost use Rattle.choice.specs.Figured.{Figured};
 
-use super::besides::beside;
+use super::beside::beside;
 use super::choice::Choice;
 use super::given::Given;
 use super::lists::Lists;

@@ -1,7 +1,7 @@
 //! Any choice of charges for figures 1 to 23, made from lines and tables, and the 28 figures by it.
 #![tactic(auto)]
 
-mod besides;
+mod beside;
 mod choice;
 mod figures;
 mod given;

@@ -6,10 +6,11 @@ use std::process::Abort;
 use std::slice::Iter;
 use std::test::Fail;
 
-type Given<'a> = Iter<'a, (u32, u32)>;
+// The charges that are left to take.
+type Left<'a> = Iter<'a, (u32, u32)>;
 
 // The next charge.
-fn charge(given: &mut Given) -> Result<Flat, Fail> {
+fn charge(given: &mut Left) -> Result<Flat, Fail> {
     let Some((low, high)) = given.next() else {
         return Err(Fail::new("too few charges"));
     };
@@ -19,23 +20,23 @@ fn charge(given: &mut Given) -> Result<Flat, Fail> {
     Ok(flat)
 }
 
-fn two(given: &mut Given) -> Result<Two, Fail> {
+fn two(given: &mut Left) -> Result<Two, Fail> {
     Ok((charge(given)?, (charge(given)?, ())))
 }
 
-fn three(given: &mut Given) -> Result<Three, Fail> {
+fn three(given: &mut Left) -> Result<Three, Fail> {
     Ok((charge(given)?, two(given)?))
 }
 
-fn five(given: &mut Given) -> Result<Five, Fail> {
+fn five(given: &mut Left) -> Result<Five, Fail> {
     Ok((charge(given)?, (charge(given)?, three(given)?)))
 }
 
-fn six(given: &mut Given) -> Result<Six, Fail> {
+fn six(given: &mut Left) -> Result<Six, Fail> {
     Ok((charge(given)?, five(given)?))
 }
 
-fn seven(given: &mut Given) -> Result<Seven, Fail> {
+fn seven(given: &mut Left) -> Result<Seven, Fail> {
     Ok((charge(given)?, six(given)?))
 }
 

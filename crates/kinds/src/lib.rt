@@ -4,8 +4,8 @@
 
 mod businesses;
 mod leaves;
+mod lists;
 mod maker;
-mod modules;
 mod ours;
 mod worked;
 

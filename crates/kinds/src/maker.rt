@@ -7,7 +7,7 @@ ghost use Rattle.kinds.specs.Ours.{market as market_of, lives, health as health_
 
 use super::businesses::Businesses;
 use super::leaves::{currency, fall, interest, part, spread, squares};
-use super::modules::{Basic, HealthParts, LifeParts, MarketParts, NonLifeParts};
+use super::lists::{Basic, HealthParts, LifeParts, MarketParts, NonLifeParts};
 use charges::{Module, Parts};
 use lines::{Kind, Totals};
 use tables::NamedTables;

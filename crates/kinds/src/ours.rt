@@ -5,8 +5,8 @@ ghost use Rattle.tables.specs.Standing.{in_order};
 ghost use Rattle.choice.specs.Basis.{basis};
 ghost use Rattle.kinds.specs.Ours.{ours};
 
+use super::lists::{Basic, HealthParts, LifeParts, MarketParts, NonLifeParts};
 use super::maker::Maker;
-use super::modules::{Basic, HealthParts, LifeParts, MarketParts, NonLifeParts};
 use choice::{Choice, Given, Lists};
 
 /// Our own charges.

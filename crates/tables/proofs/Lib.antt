@@ -1,4 +1,3 @@
 mod Seven
 mod Known
 mod Replaced
-mod InOrder

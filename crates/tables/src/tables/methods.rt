@@ -4,9 +4,11 @@ ghost use Rattle.roots.specs.Held.{correlation, table_members};
 ghost use Rattle.tables.specs.Faults.{of_table};
 ghost use Rattle.tables.specs.Numbers.{number};
 ghost use Rattle.tables.specs.Replacing.{told, replacing, replaced};
-ghost use Rattle.tables.specs.Standing.{entries, table as table_of, uncorrelated as none_correlated};
+ghost use Rattle.tables.specs.Sizes.{size, sizes};
+ghost use Rattle.tables.specs.Standing.{entries, in_order, sizes_of, table as table_of, uncorrelated as none_correlated};
 
 use super::super::fault::EntriesFault;
+use super::super::named::NamedTables;
 use super::super::which::Which;
 use super::Tables;
 use roots::{Size, Table, TableFault};
@@ -60,7 +62,8 @@ impl Tables {
 
     /// One of the tables.
     pub fn get(&self, which: Which) -> Table
-        ensures { correlation result ≡ table_of (entries self.now) (number which) }
+        ensures entries { correlation result ≡ table_of (entries self.now) (number which) }
+        ensures size { table_members result ≡ size (number which) }
     {
         self.all[place(which)]
     }
@@ -78,5 +81,22 @@ impl Tables {
         ))?;
         self.all[place] = new;
         Ok(())
+    }
+}
+
+impl From<Tables> for NamedTables {
+    ghost from_gives = { λ ts named. (in_order named ≡ entries ts) × (sizes_of named ≡ sizes) };
+
+    fn from(tables: Tables) -> NamedTables {
+        let [basic, market, equity, life, health, non_life, business] = tables.all;
+        NamedTables {
+            basic,
+            market,
+            equity,
+            life,
+            health,
+            non_life,
+            business,
+        }
     }
 }

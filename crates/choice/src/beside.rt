@@ -6,8 +6,7 @@ ghost use Rattle.choice.specs.Beside.{least_capital, beside as beside_of};
 use charges::Beside;
 use lines::{Kind, Totals};
 
-// The promises are made of every list of lines with these totals. The module is in the plural, since it may
-// not have the name of the function.
+// The promises are made of every list of lines with these totals.
 
 // The least capital of an insurer without life lines, and of one with them, in units.
 const WITHOUT_LIFE: u32 = 10_000;
