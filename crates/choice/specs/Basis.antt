@@ -21,9 +21,9 @@ abbrev pub basis : Given → Basis
 basis g = on (plain g.lines.now) g.tables.now
 
 -- at most 128 lines are taken
-abbrev pub Stood : List Line → NamedTables → Option Given → Type 0
-Stood ls ts None = 128 < length ls
-Stood ls ts (Some g) = (length ls ≤ 128) × (basis g ≡ on (plain ls) ts)
+abbrev pub GivenMade : List Line → NamedTables → Option Given → Type 0
+GivenMade ls ts None = 128 < length ls
+GivenMade ls ts (Some g) = (length ls ≤ 128) × (basis g ≡ on (plain ls) ts)
 
 -- the charges of figures 1 to 6, 7 to 13, 14 to 16, 17 and 18, and of 19 to 23, for all lines and tables
 pub record Chosen : Type 0 where

@@ -2,7 +2,7 @@ ghost use Rattle.std.specs.Prelude.{◌≡◌};
 ghost use Rattle.lines.specs.Held.{plain};
 ghost use Rattle.lines.specs.Tally.{Tally};
 ghost use Rattle.tables.specs.Standing.{in_order};
-ghost use Rattle.choice.specs.Basis.{basis, Stood};
+ghost use Rattle.choice.specs.Basis.{basis, GivenMade};
 
 use super::Given;
 use lines::{Line, Totals};
@@ -11,7 +11,7 @@ use tables::NamedTables;
 impl<'a> Given<'a> {
     /// Lines and tables, or `None` of more than 128 lines.
     pub fn new(lines: &'a [Line], tables: &'a NamedTables) -> Option<Given<'a>>
-        ensures { Stood lines.now tables.now result }
+        ensures { GivenMade lines.now tables.now result }
     {
         let totals = Totals::of(lines)?;
         Some(Given {
