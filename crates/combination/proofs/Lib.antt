@@ -2,4 +2,3 @@ mod Words
 mod Digits
 mod Listing
 mod Judging
-mod Turns

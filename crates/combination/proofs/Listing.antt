@@ -1,9 +1,19 @@
 -- The words of a line read one after the other. Assumes nothing.
-use Rattle.std.proofs.Common.{◌≡◌, ℕ, ◌+◌, ◌-◌, ◌^◌, ◌<◌, ◌≤◌, min, Bool, true, false, cond, not, List, [], ◌∷◌, ◌++◌, length, get_or, take, Some, None, Option, Ok, Err, Result, IsOk, OnOk, OnErr, ◌↔◌, sym, refl, ap, ◌∙◌, arith, length-take, length-append}
+use Rattle.std.proofs.Common.{◌≡◌, ℕ, zero, suc, ◌+◌, ◌-◌, ◌^◌, ◌<◌, ◌≤◌, min, Bool, true, false, cond, not, List, [], ◌∷◌, ◌++◌, length, get_or, take, drop, Some, None, Option, Ok, Err, Result, IsOk, OnOk, OnErr, ◌↔◌, sym, refl, ap, ◌∙◌, add-one, arith, length-take, length-append}
 use Rattle.std.proofs.lemmas.List.{length-map, take_more, take_all, take-append-le, map_push}
 use Rattle.arrayvec.specs.ArrayVec.{ArrayVec}
 use Rattle.roots.proofs.Firsts.{none_more, found_at}
 use Rattle.combination.specs.Reading.{digits, number_behind, numbers, first_wrong, at_most}
+
+-- what stands at place i, and behind it
+pub here : (ws : List (List ℕ)) (i : ℕ) (w : List ℕ) (more : List (List ℕ)) → drop i ws ≡ w ∷ more → (i < length ws) × (get_or ws i [] ≡ w) × (drop (i + 1) ws ≡ more)
+here ws i w more h = rw add-one (go ws i h)
+  where
+    go : (ws : List (List ℕ)) (i : ℕ) → drop i ws ≡ w ∷ more → (i < length ws) × (get_or ws i [] ≡ w) × (drop (suc i) ws ≡ more)
+    go [] zero h = absurd (let z : ◌≡◌ {A = ℕ} 0 1 = cc in let y : ⊥ = omega arith in y)
+    go [] (suc i) h = absurd (let z : ◌≡◌ {A = ℕ} 0 1 = cc in let y : ⊥ = omega arith in y)
+    go (x ∷ xs) zero h = (omega arith, cc, cc)
+    go (x ∷ xs) (suc i) h = let r = go xs i h in (omega (arith, r.0), r.1, r.2)
 
 abbrev cap : ℕ
 cap = 2 ^ 32 - 1

@@ -2,7 +2,7 @@ ghost use Rattle.std.specs.Prelude.{◌≡◌, ◌≤◌, length};
 ghost use Rattle.combination.specs.Listed.{NumbersRead};
 ghost use Rattle.combination.specs.Reading.{words, at_most};
 
-use super::text::{is_blank, number};
+use super::text::{next_word, number};
 use arrayvec::ArrayVec;
 
 /// As many numbers as a table of 16 members has entries above its diagonal.
@@ -24,7 +24,10 @@ pub(super) fn read_numbers(line: &[u8]) -> Result<ArrayVec<u32, MOST>, LineFault
     let mut numbers = ArrayVec::new();
     // by hand: the count goes on where there is no more room, and is wanted behind the loop
     let mut count = 0;
-    for word in line.split(|b| is_blank(*b)).filter(|word| !word.is_empty()) {
+    // word by word: `split` hands out what stands between every two blanks, and is slower on many of them
+    let mut rest = line;
+    while let Some((word, behind)) = next_word(rest) {
+        rest = behind;
         count += 1;
         let n = number(word).ok_or(LineFault::NoNumber(count))?;
         // past the room the words are only counted

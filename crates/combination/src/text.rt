@@ -1,8 +1,8 @@
-ghost use Rattle.std.specs.Prelude.{◌≡◌, ◌-◌, ◌^◌, min, length, nat_lt, if◌then◌else◌, Some, None};
+ghost use Rattle.std.specs.Prelude.{◌≡◌, ◌-◌, ◌^◌, ◌<◌, min, [], ◌∷◌, length, nat_lt, if◌then◌else◌, Some, None};
 ghost use Rattle.combination.specs.Reading.{line as line_of, after_line, blank, words, digits, number_behind};
 
 /// A space, a tab, a newline or a carriage return.
-pub(super) fn is_blank(b: u8) -> bool
+fn is_blank(b: u8) -> bool
     ensures { result ≡ blank b }
 {
     matches!(b, b' ' | b'\t' | b'\n' | b'\r')
@@ -17,6 +17,16 @@ pub(super) fn split_line(text: &[u8]) -> (&[u8], &[u8])
         Some(end) => (&text[..end], &text[end + 1..]),
         None => (text, &[]),
     }
+}
+
+/// The first word, and the text behind it.
+pub(super) fn next_word(text: &[u8]) -> Option<(&[u8], &[u8])>
+    ensures { elim result [ None ↦ words text.now ≡ [] | Some p ↦ (words text.now ≡ p.0.now ∷ words p.1.now) × (length p.1.now < length text.now) ] }
+{
+    let start = text.iter().position(|b| !is_blank(*b))?;
+    let (_, text) = text.split_at(start);
+    let end = text.iter().position(|b| is_blank(*b)).unwrap_or(text.len());
+    Some(text.split_at(end))
 }
 
 /// Whether any word stands in the text.
