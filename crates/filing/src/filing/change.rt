@@ -17,7 +17,12 @@ const MOST_SQUARED: usize = 16;
 fn count(lines: &[Line], kind: Kind) -> usize
     ensures { result ≡ kind_count (number kind) (plain lines.now) }
 {
-    lines.iter().filter(|line| line.is_of(kind)).count()
+    // the number once, and not a kind made of every line's number: this is asked of up to 128 lines
+    let number = u8::from(kind);
+    lines
+        .iter()
+        .filter(|line| line.fields().kind == number)
+        .count()
 }
 
 impl Filing {
