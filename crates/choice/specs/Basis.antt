@@ -18,7 +18,7 @@ on ls ts = record { lines = ls; tables = in_order ts }
 
 -- of the values in the code
 abbrev pub basis : Given → Basis
-basis g = on (plain g.lines.now) g.tables.now
+basis g = on (plain g.lines.now) g.tables
 
 -- at most 128 lines are taken
 abbrev pub GivenMade : List Line → NamedTables → Option Given → Type 0

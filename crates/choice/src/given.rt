@@ -9,7 +9,7 @@ use tables::NamedTables;
 pub struct Given<'a> {
     lines: &'a [Line],
     totals: Totals,
-    tables: &'a NamedTables,
+    tables: NamedTables,
     ghost tallied: { Tally totals (plain lines.now) },
 }
 
