@@ -47,7 +47,8 @@ pub type BasicParts = (
 /// associated type of a choice, the modules of modules are too large for the check to finish.
 #[derive(Clone, Copy)]
 pub struct Basic {
-    pub(super) nested: BasicParts,
+    /// Market, default, life, health, non-life: each is a charge that may be asked alone.
+    pub nested: BasicParts,
 }
 
 mod members;
