@@ -1,3 +1,4 @@
 mod Asked
 mod Same
 mod ByHand
+pub mod Named
