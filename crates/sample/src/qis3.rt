@@ -1,5 +1,5 @@
 // The correlation tables of QIS3 in hundredths: the entries above the diagonal, row by row.
-ghost use Rattle.std.specs.Prelude.{◌≡◌};
+ghost use Rattle.std.specs.Prelude.{◌≡◌, ◌-◌, [], ◌∷◌, slice_index_or};
 ghost use Rattle.tables.specs.Numbers.{number};
 ghost use Rattle.tables.specs.Replacing.{refusal};
 
@@ -36,7 +36,8 @@ const BUSINESS: [u8; 105] = [
 
 /// The entries of one of the tables; they make that table, with no refusal.
 pub fn entries(which: Which) -> &'static [u8]
-    ensures { refusal (number which) result.now ≡ None }
+    ensures value { result.now ≡ slice_index_or (BASIC ∷ MARKET ∷ EQUITY ∷ LIFE ∷ HEALTH ∷ NON_LIFE ∷ BUSINESS ∷ []) (number which - 1) [] }
+    ensures sound { refusal (number which) result.now ≡ None }
 {
     match which {
         Which::Basic => &BASIC,
